@@ -1,0 +1,13 @@
+//! Types and terms of the logic, and the rules by which theorems are derived.
+//!
+//! A term is a tree: an abstraction, or a head with its arguments. Bound variables are indices. Contracts
+//! compare terms as trees, since children are held by [`Shared`](iv_shared::Shared).
+#![tactic(auto)]
+
+pub mod name;
+pub mod text;
+pub mod want;
+
+pub use name::Name;
+pub use text::Text;
+pub use want::{Mem, Want};
