@@ -5,9 +5,13 @@
 #![tactic(auto)]
 
 pub mod name;
+pub mod term;
 pub mod text;
+pub mod typ;
 pub mod want;
 
 pub use name::Name;
+pub use term::{Head, Term, Terms};
 pub use text::Text;
+pub use typ::{Typ, Types};
 pub use want::{Mem, Want};

@@ -17,10 +17,10 @@ use Rattle.std.specs.contracts.rc.Rc as rc
 use Rattle.std.specs.declared.alloc.Global.{Global}
 use Rattle.std.specs.contracts.alloc.Global as heap
 use Rattle.std.specs.contracts.impls.GlobalAllocator.TheImpl.{ghosts}
-use Rattle.iv_shared.specs.declared.Shared.TheInside.{Inside}
-use Rattle.iv_shared.specs.declared.Shared.TheView.{view, invariant}
-use Rattle.iv_shared.specs.contracts.Shared as C
-use Rattle.iv_shared.specs.contracts.Shared.TheInside as I
+use Rattle.iv_shared.specs.declared.shared.Shared.TheInside.{Inside}
+use Rattle.iv_shared.specs.declared.shared.Shared.TheView.{view, invariant}
+use Rattle.iv_shared.specs.contracts.shared.Shared as C
+use Rattle.iv_shared.specs.contracts.shared.Shared.TheInside as I
 
 abbrev pub the_former : Former {0} → Former {0}
 the_former g = g
