@@ -1,1 +1,5 @@
--- The definitions of this crate.
+pub mod Typ
+pub mod Term
+pub mod Hyps
+pub mod Instance
+pub mod Derivation

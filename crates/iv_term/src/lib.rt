@@ -4,12 +4,16 @@
 //! compare terms as trees, since children are held by [`Shared`](iv_shared::Shared).
 #![tactic(auto)]
 
+pub mod derivation;
+pub mod instance;
 pub mod name;
 pub mod term;
 pub mod text;
 pub mod typ;
 pub mod want;
 
+pub use derivation::Derivation;
+pub use instance::{FreeTerms, Instance, SchematicTerms, VarTerms};
 pub use name::Name;
 pub use term::{Head, Term, Terms};
 pub use text::Text;

@@ -1,4 +1,5 @@
 ghost use Rattle.std.specs.Prelude.{◌≡◌, IfOk, IfErr, IsTrue, ◌↔◌};
+ghost use Rattle.iv_term.specs.Term.{tm_cons, same_term};
 ghost use Rattle.iv_term.specs.declared.want.Want.TheVariants.{Memory};
 
 use crate::name::Name;
@@ -6,6 +7,7 @@ use crate::text::Text;
 use crate::typ::Typ;
 use crate::want::Mem;
 use iv_shared::Shared;
+use std::alloc::Global;
 
 /// What stands at the head of an application.
 pub enum Head {
@@ -76,13 +78,20 @@ impl Head {
 
 impl Term {
     /// Whether both are the same term.
-    #[cycle(term_is)]
     pub fn is(&self, other: &Term) -> bool
+        ensures same { result ≡ same_term self.now other.now }
+        ensures equal { IsTrue result ↔ (self.now ≡ other.now) }
+    {
+        self.equals(other)
+    }
+
+    #[cycle(term_is)]
+    fn equals(&self, other: &Term) -> bool
         ensures { IsTrue result ↔ (self.now ≡ other.now) }
     {
         match (self, other) {
-            (Term::Abs(a, b), Term::Abs(c, d)) => a.is(c) && b.get().is(d.get()),
-            (Term::Spine(h, ts), Term::Spine(k, us)) => h.is(k) && ts.is(us),
+            (Term::Abs(a, b), Term::Abs(c, d)) => a.is(c) && b.get().equals(d.get()),
+            (Term::Spine(h, ts), Term::Spine(k, us)) => h.is(k) && ts.equals(us),
             _ => false,
         }
     }
@@ -100,14 +109,24 @@ impl Term {
 }
 
 impl Terms {
-    /// Whether both are the same list.
+    /// The list with one term in front. Fails where memory runs out.
+    pub fn cons(alloc: Global, first: Term, rest: Terms) -> Mem<Terms>
+        ensures ok { IfOk result (λ ts. ts ≡ tm_cons first rest) }
+        ensures memory { IfErr result (λ w. w ≡ Memory) }
+    {
+        let first = Shared::new(alloc, first)?;
+        let rest = Shared::new(alloc, rest)?;
+        Ok(Terms::Cons(first, rest))
+    }
+
     #[cycle(term_is)]
-    pub fn is(&self, other: &Terms) -> bool
+    fn equals(&self, other: &Terms) -> bool
         ensures { IsTrue result ↔ (self.now ≡ other.now) }
     {
         match (self, other) {
             (Terms::Nil, Terms::Nil) => true,
-            (Terms::Cons(t, ts), Terms::Cons(u, us)) => t.get().is(u.get()) && ts.get().is(us.get()),
+            (Terms::Cons(t, ts), Terms::Cons(u, us)) => t.get().equals(u.get())
+                && ts.get().equals(us.get()),
             _ => false,
         }
     }

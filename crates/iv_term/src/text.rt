@@ -1,4 +1,5 @@
 ghost use Rattle.std.specs.Prelude.{◌≡◌, IfOk, IfErr, IsTrue, ◌↔◌};
+ghost use Rattle.std.specs.Str.{bytes_eq};
 ghost use Rattle.iv_term.specs.declared.want.Want.TheVariants.{Memory};
 
 use crate::want::Mem;
@@ -34,6 +35,14 @@ impl Text {
         })
     }
 
+    /// The text of these characters. Fails where memory runs out.
+    pub fn from_slice(alloc: Global, chars: &[char]) -> Mem<Text>
+        ensures ok { IfOk result (λ t. t ≡ chars.now) }
+        ensures memory { IfErr result (λ w. w ≡ Memory) }
+    {
+        Text::from_vec(alloc, Vec::from_slice(alloc, chars)?)
+    }
+
     /// Its characters.
     pub fn as_slice(&self) -> &[char]
         ensures { result.now ≡ self.now }
@@ -43,7 +52,8 @@ impl Text {
 
     /// Whether both are the same text.
     pub fn is(&self, other: &Text) -> bool
-        ensures { IsTrue result ↔ (self.now ≡ other.now) }
+        ensures same { result ≡ bytes_eq self.now other.now }
+        ensures equal { IsTrue result ↔ (self.now ≡ other.now) }
     {
         self.as_slice() == other.as_slice()
     }

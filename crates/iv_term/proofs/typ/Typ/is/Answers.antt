@@ -1,0 +1,6 @@
+use Rattle.std.proofs.lemmas.Bool.Decides.{same_from_decides}
+use Rattle.iv_term.proofs.Laws.Same.{same_typ-Decides}
+use Rattle.iv_term.proofs.typ.Typ.is.Goals as goal
+
+pub returns-clause-same : goal.returns-clause-same
+returns-clause-same c = same_from_decides _ _ c.equals.ensures (same_typ-Decides c.args.self.now c.args.other.now)
