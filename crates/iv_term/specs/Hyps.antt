@@ -16,7 +16,7 @@ snoc Nil t = tm_cons t Nil
 snoc (tm_cons u us) t = tm_cons u (snoc us t)
 
 -- the list, and the term at its end where it is new
-abbrev pub added : Terms → Term → Terms
+unfoldable pub added : Terms → Term → Terms
 added ts t = if among t ts then ts else snoc ts t
 
 -- the first list, and behind it what is new of the second

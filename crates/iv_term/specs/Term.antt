@@ -36,13 +36,26 @@ implies = fun prop (fun prop prop)
 abbrev pub imp : Term → Term → Term
 imp a b = Spine (Const (codes "==>") implies) (tm_cons a (tm_cons b Nil))
 
+-- a head of a proposition: a variable of type prop without arguments, or the implication of two
+abbrev pub IsHeadOfProposition : Head → Type 0 → Type 0 → Type 0
+IsHeadOfProposition (Const c a) none two = (c ≡ codes "==>") × (a ≡ implies) × two
+IsHeadOfProposition (Free x a) none two = (a ≡ prop) × none
+IsHeadOfProposition (Schematic x a) none two = (a ≡ prop) × none
+IsHeadOfProposition (Bound i) none two = ⊥
+
 unfoldable mutual
   -- a proposition: a variable of type prop, or an implication between propositions
   pub IsProposition : Term → Type 0
-  IsProposition (Spine (Free x a) Nil) = a ≡ prop
-  IsProposition (Spine (Schematic x a) Nil) = a ≡ prop
-  IsProposition (Spine (Const c a) (tm_cons p (tm_cons q Nil))) = (c ≡ codes "==>") × (a ≡ implies) × IsProposition p × IsProposition q
-  IsProposition _ = ⊥
+  IsProposition (lam a b) = ⊥
+  IsProposition (Spine h ts) = IsHeadOfProposition h (ts ≡ Nil) (AreTwoPropositions ts)
+
+  pub AreTwoPropositions : Terms → Type 0
+  AreTwoPropositions Nil = ⊥
+  AreTwoPropositions (tm_cons p ts) = IsProposition p × IsOneProposition ts
+
+  pub IsOneProposition : Terms → Type 0
+  IsOneProposition Nil = ⊥
+  IsOneProposition (tm_cons p ts) = IsProposition p × (ts ≡ Nil)
 
 -- whether two heads are the same
 abbrev pub same_head : Head → Head → Bool

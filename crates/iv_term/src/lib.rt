@@ -5,8 +5,10 @@
 #![tactic(auto)]
 
 pub mod derivation;
+pub mod hyps;
 pub mod instance;
 pub mod name;
+pub mod proposition;
 pub mod term;
 pub mod text;
 pub mod typ;

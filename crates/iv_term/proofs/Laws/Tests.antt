@@ -1,0 +1,68 @@
+-- What a test of a list or of a term says of its parts, for the code's answers.
+use Rattle.std.proofs.Common.{◌≡◌, ℕ, List, Bool, true, false, refl, sym, ◌∙◌, ap, subst}
+use Rattle.std.specs.Bool.{Decides}
+use Rattle.std.specs.Prelude.{codes}
+use Rattle.iv_term.specs.declared.typ.Typ.{Typ}
+use Rattle.iv_term.specs.declared.typ.Types.{Types}
+use Rattle.iv_term.specs.declared.typ.Types.TheVariants.{Cons as TyCons}
+use Rattle.iv_term.specs.declared.typ.Typ.TheBlock.{Nil as no_types, Cons' as TyCons', Row_of-Typ, end_of-Typ, more_of-Typ, Row_of-Types, end_of-Types, more_of-Types}
+use Rattle.iv_term.specs.declared.term.Term.{Term}
+use Rattle.iv_term.specs.declared.term.Terms.{Terms}
+use Rattle.iv_term.specs.declared.term.Terms.TheVariants.{Cons}
+use Rattle.iv_term.specs.declared.term.Term.TheBlock.{Spine, Abs', Nil, Cons', Row_of-Term, end_of-Term, more_of-Term, Row_of-Terms, end_of-Terms, more_of-Terms}
+use Rattle.iv_term.specs.Typ.{ty_cons, cons_is as ty_cons_is}
+use Rattle.iv_term.specs.Term.{tm_cons, cons_is, IsProposition, AreTwoPropositions, IsOneProposition}
+
+ty_first : Types → Typ → Typ
+ty_first no_types d = d
+ty_first (ty_cons t ts) d = t
+
+ty_rest : Types → Types
+ty_rest no_types = no_types
+ty_rest (ty_cons t ts) = ts
+
+ty_cons-parts : (t u : Typ) (ts us : Types) → ty_cons t ts ≡ ty_cons u us → (t ≡ u) × (ts ≡ us)
+unfolding ty_first ty_rest
+ty_cons-parts t u ts us e = (ap (λ xs. ty_first xs t) e, ap ty_rest e)
+
+-- a list of types is x before y exactly where its parts are
+pub types_yes : {s : Types} {f g x : Typ} {r q y : Types} {a b : Bool} → s ≡ TyCons f r → g ≡ f → q ≡ r
+    → Decides a (g ≡ x) → a ≡ true → Decides b (q ≡ y) → Decides b (s ≡ ty_cons x y)
+types_yes {s} {f} {g} {x} {r} {q} {y} {a} {b} is first rest da told db =
+    let e : s ≡ ty_cons g q = is ∙ ty_cons_is f r ∙ (λ i. ty_cons (sym first i) (sym rest i)) in
+    (λ h. e ∙ (λ i. ty_cons (da.0 told i) (db.0 h i)), λ h. db.1 (ty_cons-parts g x q y (sym e ∙ h)).1)
+
+pub types_no : {s : Types} {f g x : Typ} (r y : Types) {a : Bool} → s ≡ TyCons f r → g ≡ f
+    → Decides a (g ≡ x) → a ≡ false → Decides a (s ≡ ty_cons x y)
+types_no {s} {f} {g} {x} r y {a} is first da untold =
+    let e : s ≡ ty_cons g r = is ∙ ty_cons_is f r ∙ (λ i. ty_cons (sym first i) r) in
+    (λ h. absurd (let bad : false ≡ true = sym untold ∙ h in cc), λ h. da.1 (ty_cons-parts g x r y (sym e ∙ h)).0)
+
+-- two propositions, or one, exactly where the parts are
+pub two_yes : {s : Terms} {f g : Term} {r q : Terms} {a b : Bool} → s ≡ Cons f r → g ≡ f → q ≡ r
+    → Decides a (IsProposition g) → a ≡ true → Decides b (IsOneProposition q) → Decides b (AreTwoPropositions s)
+unfolding AreTwoPropositions
+two_yes {s} {f} {g} {r} {q} {a} {b} is first rest da told db =
+    let e : s ≡ tm_cons g q = is ∙ cons_is f r ∙ (λ i. tm_cons (sym first i) (sym rest i)) in
+    (λ h. subst AreTwoPropositions (sym e) (da.0 told, db.0 h), λ h. db.1 (subst AreTwoPropositions e h).1)
+
+pub two_no : {s : Terms} {f g : Term} (r : Terms) {a : Bool} → s ≡ Cons f r → g ≡ f
+    → Decides a (IsProposition g) → a ≡ false → Decides a (AreTwoPropositions s)
+unfolding AreTwoPropositions
+two_no {s} {f} {g} r {a} is first da untold =
+    let e : s ≡ tm_cons g r = is ∙ cons_is f r ∙ (λ i. tm_cons (sym first i) r) in
+    (λ h. absurd (let bad : false ≡ true = sym untold ∙ h in cc), λ h. da.1 (subst AreTwoPropositions e h).0)
+
+pub one_yes : {s : Terms} {f g : Term} {r q : Terms} {a b : Bool} → s ≡ Cons f r → g ≡ f → q ≡ r
+    → Decides a (IsProposition g) → a ≡ true → Decides b (q ≡ Nil) → Decides b (IsOneProposition s)
+unfolding IsOneProposition
+one_yes {s} {f} {g} {r} {q} {a} {b} is first rest da told db =
+    let e : s ≡ tm_cons g q = is ∙ cons_is f r ∙ (λ i. tm_cons (sym first i) (sym rest i)) in
+    (λ h. subst IsOneProposition (sym e) (da.0 told, db.0 h), λ h. db.1 (subst IsOneProposition e h).1)
+
+pub one_no : {s : Terms} {f g : Term} (r : Terms) {a : Bool} → s ≡ Cons f r → g ≡ f
+    → Decides a (IsProposition g) → a ≡ false → Decides a (IsOneProposition s)
+unfolding IsOneProposition
+one_no {s} {f} {g} r {a} is first da untold =
+    let e : s ≡ tm_cons g r = is ∙ cons_is f r ∙ (λ i. tm_cons (sym first i) r) in
+    (λ h. absurd (let bad : false ≡ true = sym untold ∙ h in cc), λ h. da.1 (subst IsOneProposition e h).0)
