@@ -28,13 +28,71 @@ pub cons_is : (t : Term) (ts : Terms) → Cons t ts ≡ tm_cons t ts
 unfolding shape-the_row-Term-0 hidden-the_row-Term-0 shape-the_row-Terms-1 hidden-the_row-Terms-1 hidden
 cons_is t ts = refl
 
+-- whether two heads are the same
+abbrev pub same_head : Head → Head → Bool
+same_head (Const c a) (Const d b) = bytes_eq c d && same_typ a b
+same_head (Free x a) (Free y b) = same_name x y && same_typ a b
+same_head (Schematic x a) (Schematic y b) = same_name x y && same_typ a b
+same_head (Bound i) (Bound j) = nat_eq i j
+same_head _ _ = false
+
+unfoldable mutual
+  -- whether two terms are the same tree
+  pub same_term : Term → Term → Bool
+  same_term (lam a b) (lam c d) = same_typ a c && same_term b d
+  same_term (Spine h ts) (Spine k us) = same_head h k && same_terms ts us
+  same_term _ _ = false
+
+  pub same_terms : Terms → Terms → Bool
+  same_terms Nil Nil = true
+  same_terms (tm_cons t ts) (tm_cons u us) = same_term t u && same_terms ts us
+  same_terms _ _ = false
+
 -- the type of the implication
 abbrev pub implies : Typ
 implies = fun prop (fun prop prop)
 
 -- a ==> b
+abbrev pub imp_head : Head
+imp_head = Const (codes "==>") implies
+
 abbrev pub imp : Term → Term → Term
-imp a b = Spine (Const (codes "==>") implies) (tm_cons a (tm_cons b Nil))
+imp a b = Spine imp_head (tm_cons a (tm_cons b Nil))
+
+-- the first of some terms, or d where there is none; the terms behind it
+abbrev pub first_or : Term → Terms → Term
+first_or d Nil = d
+first_or d (tm_cons t ts) = t
+
+abbrev pub rest_of : Terms → Terms
+rest_of Nil = Nil
+rest_of (tm_cons t ts) = ts
+
+-- whether there is no term, one, or two
+abbrev pub is_nil : Terms → Bool
+is_nil Nil = true
+is_nil (tm_cons t ts) = false
+
+abbrev pub is_one : Terms → Bool
+is_one Nil = false
+is_one (tm_cons t ts) = is_nil ts
+
+abbrev pub are_two : Terms → Bool
+are_two Nil = false
+are_two (tm_cons t ts) = is_one ts
+
+-- the first and the second argument, which are the premise and the conclusion of an implication; where there is none, the term itself
+abbrev pub antecedent : Term → Term
+antecedent (lam a b) = lam a b
+antecedent (Spine h ts) = first_or (Spine h ts) ts
+
+abbrev pub consequent : Term → Term
+consequent (lam a b) = lam a b
+consequent (Spine h ts) = first_or (Spine h ts) (rest_of ts)
+
+-- a term is an implication
+abbrev pub IsImplication : Term → Type 0
+IsImplication t = t ≡ imp (antecedent t) (consequent t)
 
 -- a head of a proposition: a variable of type prop without arguments, or the implication of two
 abbrev pub IsHeadOfProposition : Head → Type 0 → Type 0 → Type 0
@@ -56,26 +114,6 @@ unfoldable mutual
   pub IsOneProposition : Terms → Type 0
   IsOneProposition Nil = ⊥
   IsOneProposition (tm_cons p ts) = IsProposition p × (ts ≡ Nil)
-
--- whether two heads are the same
-abbrev pub same_head : Head → Head → Bool
-same_head (Const c a) (Const d b) = bytes_eq c d && same_typ a b
-same_head (Free x a) (Free y b) = same_name x y && same_typ a b
-same_head (Schematic x a) (Schematic y b) = same_name x y && same_typ a b
-same_head (Bound i) (Bound j) = nat_eq i j
-same_head _ _ = false
-
-unfoldable mutual
-  -- whether two terms are the same tree
-  pub same_term : Term → Term → Bool
-  same_term (lam a b) (lam c d) = same_typ a c && same_term b d
-  same_term (Spine h ts) (Spine k us) = same_head h k && same_terms ts us
-  same_term _ _ = false
-
-  pub same_terms : Terms → Terms → Bool
-  same_terms Nil Nil = true
-  same_terms (tm_cons t ts) (tm_cons u us) = same_term t u && same_terms ts us
-  same_terms _ _ = false
 
 -- whether a head is the free variable x of type a
 abbrev pub is_free : Name → Typ → Head → Bool

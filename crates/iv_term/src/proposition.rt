@@ -1,6 +1,6 @@
 ghost use Rattle.std.specs.Prelude.{◌≡◌, IfOk, IfErr, IsTrue, ◌↔◌, codes};
 ghost use Rattle.iv_term.specs.Typ.{prop, fun, ty_cons};
-ghost use Rattle.iv_term.specs.Term.{imp, implies, IsProposition, IsHeadOfProposition, AreTwoPropositions, IsOneProposition};
+ghost use Rattle.iv_term.specs.Term.{imp, imp_head, implies, is_nil, is_one, are_two, first_or, rest_of, antecedent, consequent, IsImplication, IsProposition, IsHeadOfProposition, AreTwoPropositions, IsOneProposition};
 ghost use Rattle.iv_term.specs.declared.want.Want.TheVariants.{Memory};
 ghost use Rattle.iv_term.specs.declared.typ.Typ.TheBlock.{Nil};
 ghost use Rattle.iv_term.specs.declared.term.Term.TheBlock.{Nil as no_terms};
@@ -102,10 +102,65 @@ fn is_implication(c: &Text, a: &Typ) -> bool
     c.is_chars(&['=', '=', '>']) && a.is_implies()
 }
 
+impl Head {
+    /// Whether it is the implication. Takes no memory.
+    fn is_implication(&self) -> bool
+        ensures { IsTrue result ↔ (self.now ≡ imp_head) }
+    {
+        match self {
+            Head::Const(c, a) => is_implication(c, a),
+            Head::Free(_x, _a) => false,
+            Head::Schematic(_x, _a) => false,
+            Head::Bound(_i) => false,
+        }
+    }
+}
+
 impl Terms {
+    /// Whether the list has one term.
+    fn is_one(&self) -> bool
+        ensures { result ≡ is_one self.now }
+    {
+        match self {
+            Terms::Nil => false,
+            Terms::Cons(_first, rest) => rest.get().is_nil(),
+        }
+    }
+
+    /// Whether the list has two terms.
+    fn are_two(&self) -> bool
+        ensures { result ≡ are_two self.now }
+    {
+        match self {
+            Terms::Nil => false,
+            Terms::Cons(_first, rest) => rest.get().is_one(),
+        }
+    }
+
+    /// The first term, or `other` where the list is empty.
+    fn first_or<'a>(&'a self, other: &'a Term) -> &'a Term
+        ensures { result.now ≡ first_or other.now self.now }
+    {
+        match self {
+            Terms::Nil => other,
+            Terms::Cons(first, _rest) => first.get(),
+        }
+    }
+
+    /// The list behind the first term.
+    fn rest(&self) -> &Terms
+        ensures { result.now ≡ rest_of self.now }
+    {
+        match self {
+            Terms::Nil => self,
+            Terms::Cons(_first, rest) => rest.get(),
+        }
+    }
+
     /// Whether the list is empty. Takes no memory.
     pub fn is_nil(&self) -> bool
-        ensures { IsTrue result ↔ (self.now ≡ no_terms) }
+        ensures same { result ≡ is_nil self.now }
+        ensures empty { IsTrue result ↔ (self.now ≡ no_terms) }
     {
         match self {
             Terms::Nil => true,
@@ -161,6 +216,38 @@ impl Term {
         let both = Terms::cons(alloc, a.copy()?, last)?;
         let name = Text::from_slice(alloc, &['=', '=', '>'])?;
         Ok(Term::Spine(Head::Const(name, Typ::implies(alloc)?), both))
+    }
+
+    /// Whether it is an implication. Takes no memory.
+    pub fn is_implication(&self) -> bool
+        ensures { IsTrue result ↔ IsImplication self.now }
+    {
+        match self {
+            Term::Abs(_a, _b) => false,
+            Term::Spine(h, ts) => h.is_implication() && ts.are_two(),
+        }
+    }
+
+    /// The first argument, which is the premise of an implication; where there is none, the term itself.
+    /// Takes no memory.
+    pub fn antecedent(&self) -> &Term
+        ensures { result.now ≡ antecedent self.now }
+    {
+        match self {
+            Term::Abs(_a, _b) => self,
+            Term::Spine(_h, ts) => { ts.first_or(self) }
+        }
+    }
+
+    /// The second argument, which is the conclusion of an implication; where there is none, the term
+    /// itself. Takes no memory.
+    pub fn consequent(&self) -> &Term
+        ensures { result.now ≡ consequent self.now }
+    {
+        match self {
+            Term::Abs(_a, _b) => self,
+            Term::Spine(_h, ts) => { ts.rest().first_or(self) }
+        }
     }
 
     /// Whether it is a proposition: a variable of type `prop`, or an implication between propositions.

@@ -25,7 +25,7 @@ unfolding IsOneProposition
 Terms::is_one_proposition-returns-in-Nil t c = rw c.in-Nil.is (λ h. cc, λ h. absurd h)
 
 pub Terms::is_one_proposition-returns-then-is_proposition : goal.Terms::is_one_proposition-returns-then-is_proposition
-Terms::is_one_proposition-returns-then-is_proposition t c = one_yes c.in-Cons.is c.get.ensures c.get-then-is_proposition.ensures c.is_proposition.ensures c.if-is_proposition.true c.is_nil.ensures
+Terms::is_one_proposition-returns-then-is_proposition t c = one_yes c.in-Cons.is c.get.ensures c.get-then-is_proposition.ensures c.is_proposition.ensures c.if-is_proposition.true c.is_nil.ensures.empty
 
 pub Terms::is_one_proposition-returns-else-is_proposition : goal.Terms::is_one_proposition-returns-else-is_proposition
 Terms::is_one_proposition-returns-else-is_proposition t c = one_no c.in-Cons.rest c.in-Cons.is c.get.ensures c.is_proposition.ensures c.if-is_proposition.false

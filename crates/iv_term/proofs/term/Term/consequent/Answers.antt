@@ -1,0 +1,5 @@
+use Rattle.iv_term.specs.Term.{abs_is}
+use Rattle.iv_term.proofs.term.Term.consequent.Goals as goal
+
+pub returns-in-Abs : goal.returns-in-Abs
+returns-in-Abs c = rw (c.in-Abs.is, abs_is)
