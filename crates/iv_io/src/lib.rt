@@ -14,11 +14,11 @@ pub mod memory;
 pub mod sink;
 pub mod source;
 pub mod system;
-//pub mod whole;
+pub mod whole;
 
 pub use failed::Failed;
 pub use memory::{MemSink, MemSource};
 pub use sink::Sink;
 pub use source::Source;
 pub use system::{StdSink, StdSource};
-//pub use whole::{ReadError, read_all, write_all};
+pub use whole::{ReadError, read_all, write_all};
