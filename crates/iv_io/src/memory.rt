@@ -30,8 +30,13 @@ impl Model for MemSource {
     ghost Value = { Feed };
 
     ghost view = { λ s. record {
-        left = drop s.at s.bytes.items; piece = s.piece; fails = s.fails.items;
-        calls = s.calls; taken = s.taken; faults = s.faults } };
+      left = drop s.at s.bytes.items;
+      piece = s.piece;
+      fails = s.fails.items;
+      calls = s.calls;
+      taken = s.taken;
+      faults = s.faults;
+    } };
 
     ghost invariant = { λ s. (1 ≤ s.piece) × (s.at ≤ length s.bytes.items) × (s.taken ≤ last_count) × (s.faults ≤ last_count) };
 }
@@ -69,9 +74,14 @@ impl Source for MemSource {
         ensures count { IfOk result (λ n. n ≡ gives self.old (length into.old)) }
         ensures gives { IfOk result (λ n. into.new ≡ take n self.old.left ++ drop n into.old) }
         ensures after { IfOk result (λ n. self.new ≡ record self.old {
-            left = drop n self.old.left; calls = counted self.old.calls 1; taken = counted self.old.taken n }) }
+          left = drop n self.old.left;
+          calls = counted self.old.calls 1;
+          taken = counted self.old.taken n;
+        }) }
         ensures after_err { OnErr result (self.new ≡ record self.old {
-            calls = counted self.old.calls 1; faults = counted self.old.faults 1 }) }
+          calls = counted self.old.calls 1;
+          faults = counted self.old.faults 1;
+        }) }
         ensures into_err { OnErr result (into.new ≡ into.old) }
         ensures end { 0 < length into.old → result ≡ Ok 0 → (b : List ℕ) → Some self.old.left ≡ Some b → b ≡ [] }
         ensures faults_grow { self.old.faults ≤ self.new.faults }
@@ -122,8 +132,13 @@ impl Model for MemSink {
     ghost Value = { Tray };
 
     ghost view = { λ s. record {
-        written = s.written.items; capacity = s.capacity; piece = s.piece; fails = s.fails.items;
-        calls = s.calls; faults = s.faults } };
+      written = s.written.items;
+      capacity = s.capacity;
+      piece = s.piece;
+      fails = s.fails.items;
+      calls = s.calls;
+      faults = s.faults;
+    } };
 
     ghost invariant = { λ s. (1 ≤ s.piece) × (length s.written.items ≤ s.capacity) × (s.capacity ≤ vec_capacity s.written)
         × (s.faults ≤ last_count) };
@@ -166,9 +181,13 @@ impl Sink for MemSink {
         ensures fails { IsErr result ↔ RefusesNext self.old (length from.now) }
         ensures count { IfOk result (λ n. n ≡ takes self.old (length from.now)) }
         ensures after { IfOk result (λ n. self.new ≡ record self.old {
-            written = self.old.written ++ take n from.now; calls = counted self.old.calls 1 }) }
+          written = self.old.written ++ take n from.now;
+          calls = counted self.old.calls 1;
+        }) }
         ensures after_err { OnErr result (self.new ≡ record self.old {
-            calls = counted self.old.calls 1; faults = counted self.old.faults 1 }) }
+          calls = counted self.old.calls 1;
+          faults = counted self.old.faults 1;
+        }) }
         ensures progress { 0 < length from.now → IfOk result (λ n. 1 ≤ n) }
         ensures faults_grow { self.old.faults ≤ self.new.faults }
         ensures faults_fit { self.new.faults ≤ last_count }

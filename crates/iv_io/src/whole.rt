@@ -41,7 +41,11 @@ impl From<AllocError> for ReadError {
 
 /// Reads a source to its end. Fails where the source fails, where it gives more than `limit` bytes, and
 /// where memory runs out.
-pub fn read_all<S: Source>(alloc: Global, source: &mut S, limit: usize) -> Result<Vec<u8>, ReadError>
+pub fn read_all<S: Source>(
+    alloc: Global,
+    source: &mut S,
+    limit: usize,
+) -> Result<Vec<u8>, ReadError>
     ensures whole { IfOk result (λ v. (b : List ℕ) → S.left source.old ≡ Some b → v.items ≡ b) }
     ensures at_end { OnOk result ((b : List ℕ) → S.left source.old ≡ Some b → S.left source.new ≡ Some []) }
     ensures taken_ok { IfOk result (λ v. S.taken source.new ≡ counted (S.taken source.old) (length v.items)) }

@@ -9,8 +9,8 @@ invariant-reads g l = record {
   faults : g.S.Source.faults l.source ≡ g.S.Source.faults l.fn.source;
   taken : counted (g.S.Source.taken l.source) 0 ≡ counted (g.S.Source.taken l.fn.source) (length l.bytes.items);
   told : (b : List ℕ) → g.S.Source.left l.fn.source ≡ Some b →
-    (l.bytes.items ≡ take (length l.bytes.items) b) × (length l.bytes.items ≤ length b)
-    × (g.S.Source.left l.source ≡ Some (drop (length l.bytes.items) b));
+      (l.bytes.items ≡ take (length l.bytes.items) b) × (length l.bytes.items ≤ length b)
+      × (g.S.Source.left l.source ≡ Some (drop (length l.bytes.items) b));
 }
 
 abbrev pub decreases-reads : goal.decreases-reads

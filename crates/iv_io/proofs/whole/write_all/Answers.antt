@@ -8,5 +8,5 @@ writes-preserved g c = record {
   within = omega (arith, c.in_ok-done.ensures.within, length-drop c.writes.done c.args.bytes.now);
   faults = grind (arith, common_steps);
   told = λ w h. let t = c.in_ok-done.ensures.appended _ (c.writes.invariant.told w h) in
-    grind (arith, common_steps, take-add, append_assoc, t);
+      grind (arith, common_steps, take-add, append_assoc, t);
 }
