@@ -2,7 +2,7 @@
 use Rattle.std.specs.Prelude.{ℕ, ◌-◌, ◌+◌, ◌<◌, ◌≤◌, ◌⊎◌, min, List, length, Contains}
 
 -- a source in memory: the bytes still to be read, the most that a call gives, the numbers of the calls
--- that fail, and how many calls, bytes and faults there were
+-- that fail (from 1, each at most last_count), and how many calls, bytes and faults were counted
 pub record Feed : Type 0 where
   pub left : List ℕ
   pub piece : ℕ
@@ -11,7 +11,7 @@ pub record Feed : Type 0 where
   pub taken : ℕ
   pub faults : ℕ
 
--- the next call fails, since its number is listed
+-- the next call fails, since its number is listed; past last_count, where `calls` stays, none is
 abbrev pub FailsNext : List ℕ → ℕ → Type 0
 FailsNext fails calls = Contains fails (calls + 1)
 

@@ -1,12 +1,16 @@
 //! Where bytes come from and where they go.
 //!
-//! The program reads through a [`Source`] and writes through a [`Sink`]. What stands on them is proved
-//! for every source and every sink that keeps their contracts: bytes come in order and none is lost, the
-//! end is told only at the end, and a failure only where the count of faults rose.
+//! The program reads documents through a [`Source`] and writes its answers through a [`Sink`]. The traits
+//! carry the contract of each call. Bytes come in order and none is lost or made up, where the source
+//! tells its bytes. The end is told only at the end. A call fails only where the count of faults rose, and
+//! has then moved no byte. Every count stops at 2^64 - 1, and one that stands there counts as risen.
 //!
-//! [`MemSource`] and [`MemSink`] work in memory, with failures where a test wants them. [`StdSource`] and
-//! [`StdSink`] stand over `std`'s readers and writers and are the trusted edge: they tell no bytes.
-//! [`read_all`] and [`write_all`] read to the end and write the whole.
+//! [`read_all`] and [`write_all`] read to the end and write the whole. They stand on the traits alone, so
+//! what they promise holds at every source and sink.
+//!
+//! [`MemSource`] and [`MemSink`] work in memory, in pieces and with failures as a test wants them, and their
+//! contracts are exact. [`StdSource`] and [`StdSink`] stand over readers and writers of `std`. They are the
+//! edge to the system: they count, and tell no bytes.
 #![tactic(auto)]
 
 pub mod failed;

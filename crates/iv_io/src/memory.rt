@@ -72,7 +72,7 @@ impl Source for MemSource {
     fn read(&mut self, into: &mut [u8]) -> Result<usize, Failed>
         ensures fails { IsErr result ↔ FailsNext self.old.fails self.old.calls }
         ensures count { IfOk result (λ n. n ≡ gives self.old (length into.old)) }
-        ensures gives { IfOk result (λ n. into.new ≡ take n self.old.left ++ drop n into.old) }
+        ensures bytes { IfOk result (λ n. into.new ≡ take n self.old.left ++ drop n into.old) }
         ensures after { IfOk result (λ n. self.new ≡ record self.old {
           left = drop n self.old.left;
           calls = counted self.old.calls 1;
@@ -87,6 +87,7 @@ impl Source for MemSource {
         ensures faults_grow { self.old.faults ≤ self.new.faults }
         ensures faults_fit { self.new.faults ≤ last_count }
         ensures taken_fits { self.new.taken ≤ last_count }
+        ensures taken_fitted { self.old.taken ≤ last_count }
     {
         let fails = is_listed(self.fails.as_slice(), self.calls);
         self.calls = self.calls.saturating_add(1);

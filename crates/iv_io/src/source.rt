@@ -28,5 +28,6 @@ pub trait Source {
         ensures faults_stay { OnOk result (faults self.new ≡ faults self.old) }
         ensures faults_grow { faults self.old ≤ faults self.new }
         ensures faults_fit { faults self.new ≤ last_count }
-        ensures taken_fits { taken self.new ≤ last_count };
+        ensures taken_fits { taken self.new ≤ last_count }
+        ensures taken_fitted { taken self.old ≤ last_count };
 }

@@ -60,7 +60,8 @@ impl<R: Read + Drop> Source for StdSource<R> {
     }
 }
 
-/// A sink over a writer of `std`. It tells no bytes; contracts see its count of faults.
+/// A sink over a writer of `std`. It tells no bytes; contracts see its count of faults. A writer that takes
+/// none of some bytes has failed.
 #[derive(Drop)]
 pub struct StdSink<W: Write + Drop> {
     writer: W,

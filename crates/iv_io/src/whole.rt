@@ -56,6 +56,7 @@ pub fn read_all<S: Source>(
     ensures failed { result ≡ Err ReadError.Failed → Rose (S.faults source.old) (S.faults source.new) }
     ensures not_failed { result ≢ Err ReadError.Failed → S.faults source.new ≡ S.faults source.old }
     ensures faults_grow { S.faults source.old ≤ S.faults source.new }
+    ensures taken_grow { S.taken source.old ≤ S.taken source.new }
     // in any case, the bytes given came off the front of a told `left`
     ensures advanced { (b : List ℕ) → S.left source.old ≡ Some b → ((n : ℕ) × (n ≤ length b)
         × (S.left source.new ≡ Some (drop n b)) × (S.taken source.new ≡ counted (S.taken source.old) n)) }

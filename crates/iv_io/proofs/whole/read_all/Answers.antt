@@ -1,7 +1,6 @@
-use Rattle.std.proofs.Common.{rules, ◌≡◌, ◌≢◌, ℕ, ◌+◌, ◌<◌, ◌≤◌, List, [], ◌++◌, Some, length, take, drop, arith, Ok, Err, ap, ◌∙◌, length-drop, length-append}
+use Rattle.std.proofs.Common.{◌≡◌, ◌+◌, ◌++◌, Some, length, take, arith, Ok, ap, ◌∙◌, length-drop, length-append}
 use Rattle.std.proofs.lemmas.List.{drop-drop, length-take-le}
 use Rattle.std.proofs.lemmas.Grind.{common_steps}
-use Rattle.iv_io.specs.Counts.{counted, Rose, RoseAbove}
 use Rattle.iv_io.proofs.Parts.{whole_read, next_read, next_left, next_within}
 use Rattle.iv_io.proofs.whole.read_all.Goals as goal
 
@@ -41,6 +40,7 @@ reads-preserved g c =
       room = omega arith;
       within = rw items (omega (arith, length-append c.reads.bytes.items (take c.in_ok-count.count c.read.new.into), part));
       faults = grind (arith, common_steps);
+      grown = omega (arith, c.in_ok-count.ensures.taken_ok);
       taken = rw items (omega (arith, c.in_ok-count.ensures.taken_ok, length-append c.reads.bytes.items (take c.in_ok-count.count c.read.new.into), part));
       told = λ b h. let t = c.reads.invariant.told b h in let k = c.in_ok-count.ensures.given _ t.2 in rw items
           (next_read b _ _ _ t.0 part k.0, next_within b _ _ _ t.1 part k.1, k.2 ∙ ap Some (next_left b c.reads.bytes.items _ _ part));

@@ -1,4 +1,4 @@
-use Rattle.std.proofs.Common.{rules, ◌≡◌, ℕ, ◌+◌, ◌++◌, take, drop, arith, append_assoc, length-drop}
+use Rattle.std.proofs.Common.{arith, append_assoc, length-drop}
 use Rattle.std.proofs.Math.Seq.{take-add}
 use Rattle.std.proofs.lemmas.Grind.{common_steps}
 use Rattle.iv_io.proofs.whole.write_all.Goals as goal
