@@ -38,7 +38,8 @@ impl Model for MemSource {
       faults = s.faults;
     } };
 
-    ghost invariant = { λ s. (1 ≤ s.piece) × (s.at ≤ length s.bytes.items) × (s.taken ≤ last_count) × (s.faults ≤ last_count) };
+    ghost invariant = { λ s. (1 ≤ s.piece) × (s.at ≤ length s.bytes.items)
+        × (s.taken ≤ last_count) × (s.faults ≤ last_count) };
 }
 
 impl MemSource {
@@ -46,7 +47,14 @@ impl MemSource {
     /// `fails`, counted from 1, fail.
     pub fn new(bytes: Vec<u8>, piece: usize, fails: Vec<u64>) -> MemSource
         requires { 1 ≤ piece }
-        ensures { result ≡ record { left = bytes.items; piece = piece; fails = fails.items; calls = 0; taken = 0; faults = 0 } }
+        ensures { result ≡ record {
+          left = bytes.items;
+          piece = piece;
+          fails = fails.items;
+          calls = 0;
+          taken = 0;
+          faults = 0;
+        } }
     {
         MemSource {
             bytes,
@@ -83,7 +91,8 @@ impl Source for MemSource {
           faults = counted self.old.faults 1;
         }) }
         ensures into_err { OnErr result (into.new ≡ into.old) }
-        ensures end { 0 < length into.old → result ≡ Ok 0 → (b : List ℕ) → Some self.old.left ≡ Some b → b ≡ [] }
+        ensures end { 0 < length into.old → result ≡ Ok 0 →
+            (b : List ℕ) → Some self.old.left ≡ Some b → b ≡ [] }
         ensures faults_grow { self.old.faults ≤ self.new.faults }
         ensures faults_fit { self.new.faults ≤ last_count }
         ensures taken_fits { self.new.taken ≤ last_count }
@@ -141,8 +150,8 @@ impl Model for MemSink {
       faults = s.faults;
     } };
 
-    ghost invariant = { λ s. (1 ≤ s.piece) × (length s.written.items ≤ s.capacity) × (s.capacity ≤ vec_capacity s.written)
-        × (s.faults ≤ last_count) };
+    ghost invariant = { λ s. (1 ≤ s.piece) × (length s.written.items ≤ s.capacity)
+        × (s.capacity ≤ vec_capacity s.written) × (s.faults ≤ last_count) };
 }
 
 impl MemSink {
@@ -150,7 +159,14 @@ impl MemSink {
     /// with a number in `fails`, counted from 1, fail. Takes all its memory here; fails where there is none.
     pub fn new(alloc: Global, capacity: usize, piece: usize, fails: Vec<u64>) -> Mem<MemSink>
         requires { 1 ≤ piece }
-        ensures ok { IfOk result (λ s. s ≡ record { written = []; capacity = capacity; piece = piece; fails = fails.items; calls = 0; faults = 0 }) }
+        ensures ok { IfOk result (λ s. s ≡ record {
+          written = [];
+          capacity = capacity;
+          piece = piece;
+          fails = fails.items;
+          calls = 0;
+          faults = 0;
+        }) }
         ensures memory { IfErr result (λ w. w ≡ Memory) }
     {
         Ok(MemSink {

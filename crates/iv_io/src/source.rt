@@ -22,7 +22,8 @@ pub trait Source {
         ensures taken_err { OnErr result (taken self.new ≡ taken self.old) }
         ensures given { IfOk result (λ n. (b : List ℕ) → left self.old ≡ Some b →
             (take n into.new ≡ take n b) × (n ≤ length b) × (left self.new ≡ Some (drop n b))) }
-        ensures end { 0 < length into.old → result ≡ Ok 0 → (b : List ℕ) → left self.old ≡ Some b → b ≡ [] }
+        ensures end { 0 < length into.old → result ≡ Ok 0 →
+            (b : List ℕ) → left self.old ≡ Some b → b ≡ [] }
         ensures failed { OnErr result (Rose (faults self.old) (faults self.new)) }
         ensures failed_keeps { OnErr result (left self.new ≡ left self.old) }
         ensures faults_stay { OnOk result (faults self.new ≡ faults self.old) }
