@@ -1,5 +1,5 @@
-ghost use Rattle.std.specs.Prelude.{◌≡◌, ◌↔◌, ℕ, ◌+◌, ◌<◌, ◌≤◌, min, List, [], ◌++◌, Some, length, take, drop, Ok, IfOk, IfErr, OnOk, OnErr, IsErr, IsTrue};
-ghost use Rattle.iv_io.specs.Counts.{last_count, counted, Rose};
+ghost use Rattle.std.specs.Prelude.{◌≡◌, ◌↔◌, ◌<◌, ◌≤◌, ℕ, List, [], ◌++◌, length, take, drop, Some, Ok, IfOk, IfErr, OnErr, IsErr, IsTrue};
+ghost use Rattle.iv_io.specs.Counts.{last_count, counted};
 ghost use Rattle.iv_io.specs.Memory.{FailsNext, gives, takes, RefusesNext};
 ghost use Rattle.iv_term.specs.declared.want.Want.TheVariants.{Memory};
 

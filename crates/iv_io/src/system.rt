@@ -1,5 +1,4 @@
 ghost use Rattle.std.specs.Prelude.{◌≡◌, None};
-ghost use Rattle.iv_io.specs.Counts.{last_count, counted, Rose};
 
 use crate::failed::Failed;
 use crate::sink::Sink;

@@ -1,4 +1,4 @@
-use Rattle.std.proofs.Common.{◌≡◌, ◌+◌, ◌++◌, Some, length, take, arith, Ok, ap, ◌∙◌, length-drop, length-append}
+use Rattle.std.proofs.Common.{◌≡◌, ℕ, List, ◌+◌, ◌++◌, Some, length, take, arith, Ok, ap, ◌∙◌, length-drop, length-append}
 use Rattle.std.proofs.lemmas.List.{drop-drop, length-take-le}
 use Rattle.std.proofs.lemmas.Grind.{common_steps}
 use Rattle.iv_io.proofs.Parts.{whole_read, next_read, next_left, next_within}
@@ -33,17 +33,22 @@ returns-then-count-limit-clause-advanced g c = λ b h. let t = c.reads.invariant
 
 pub reads-preserved : goal.reads-preserved
 reads-preserved g c =
-    let items : c.extend_from_slice.new.self.items ≡ c.reads.bytes.items ++ take c.in_ok-count.count c.read.new.into
-    = c.in_ok-extend_from_slice.ensures.items in
-    let part : length (take c.in_ok-count.count c.read.new.into) ≡ c.in_ok-count.count
-    = length-take-le _ _ (omega (arith, c.in_ok-count.ensures.within)) in record {
+    let next : List ℕ = take c.in_ok-count.count c.read.new.into in
+    let items : c.extend_from_slice.new.self.items ≡ c.reads.bytes.items ++ next = c.in_ok-extend_from_slice.ensures.items in
+    let part : length next ≡ c.in_ok-count.count = length-take-le _ _ (omega (arith, c.in_ok-count.ensures.within)) in
+    let both : length (c.reads.bytes.items ++ next) ≡ length c.reads.bytes.items + c.in_ok-count.count
+    = omega (arith, length-append c.reads.bytes.items next, part) in
+    record {
       room = omega arith;
-      within = rw items (omega (arith, length-append c.reads.bytes.items (take c.in_ok-count.count c.read.new.into), part));
+      within = rw items (omega (arith, both));
       faults = grind (arith, common_steps);
       grown = omega (arith, c.in_ok-count.ensures.taken_ok);
-      taken = rw items (omega (arith, c.in_ok-count.ensures.taken_ok, length-append c.reads.bytes.items (take c.in_ok-count.count c.read.new.into), part));
-      told = λ b h. let t = c.reads.invariant.told b h in let k = c.in_ok-count.ensures.given _ t.2 in rw items
-          (next_read b _ _ _ t.0 part k.0, next_within b _ _ _ t.1 part k.1, k.2 ∙ ap Some (next_left b c.reads.bytes.items _ _ part));
+      taken = rw items (omega (arith, c.in_ok-count.ensures.taken_ok, both));
+      told = λ b h. let t = c.reads.invariant.told b h in let k = c.in_ok-count.ensures.given _ t.2 in rw items (
+        next_read b _ _ _ t.0 part k.0,
+        next_within b _ _ _ t.1 part k.1,
+        k.2 ∙ ap Some (next_left b c.reads.bytes.items _ _ part),
+      );
     }
 
 pub returns-in_err-extend_from_slice-clause-advanced :
