@@ -6,6 +6,8 @@
 //! are left and a claim.
 #![tactic(auto)]
 
+pub mod goal;
 pub mod thm;
 
+pub use goal::Goal;
 pub use thm::Thm;

@@ -1,0 +1,20 @@
+use Rattle.std.proofs.Common.{rules, ◌≡◌, ℕ, ◌-◌, ◌≤◌, ◌<◌, [], ◌∷◌, length, slice_get, Some, IfOk, IfErr, IsTrue, ◌↔◌, ◌+◌, ◌*◌, ◌/◌, ◌%◌, Bool, true, false, nat_eq, nat_lt, List, ◌++◌, slice_index_or, slice_set, bit_and, bit_or, Fits, w8, w32, w64, Bor, MutBor}
+use Rattle.iv_term.specs.Term.{imp, IsProposition}
+use Rattle.iv_term.specs.Derivation.{imp_intr}
+use Rattle.iv_term.specs.declared.want.Want.TheVariants.{Memory}
+use Rattle.iv_term.specs.declared.term.Term.TheBlock.{Nil}
+use Rattle.iv_term.specs.declared.derivation.Derivation.TheBlock.{Assume}
+use Rattle.iv_kernel.specs.Goal.{goal_prop, premises_of, IsGoalProp}
+use Rattle.iv_kernel.proofs.goal.+leads_to.Goals as goal
+
+-- src/goal.rt:142:9
+pub returns-then-count-eq0 : goal.returns-then-count-eq0
+returns-then-count-eq0 t c = ?
+
+-- src/goal.rt:145:9
+pub returns-then-not-is_implication : goal.returns-then-not-is_implication
+returns-then-not-is_implication t c = ?
+
+-- src/goal.rt:138:1
+pub returns : goal.returns
+returns t c = ?
