@@ -7,7 +7,9 @@
 #![tactic(auto)]
 
 pub mod goal;
+pub mod theorems;
 pub mod thm;
 
 pub use goal::Goal;
+pub use theorems::{NamedThm, Theorems};
 pub use thm::Thm;

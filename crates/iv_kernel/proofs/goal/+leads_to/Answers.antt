@@ -1,20 +1,15 @@
-use Rattle.std.proofs.Common.{rules, ◌≡◌, ℕ, ◌-◌, ◌≤◌, ◌<◌, [], ◌∷◌, length, slice_get, Some, IfOk, IfErr, IsTrue, ◌↔◌, ◌+◌, ◌*◌, ◌/◌, ◌%◌, Bool, true, false, nat_eq, nat_lt, List, ◌++◌, slice_index_or, slice_set, bit_and, bit_or, Fits, w8, w32, w64, Bor, MutBor}
-use Rattle.iv_term.specs.Term.{imp, IsProposition}
-use Rattle.iv_term.specs.Derivation.{imp_intr}
-use Rattle.iv_term.specs.declared.want.Want.TheVariants.{Memory}
-use Rattle.iv_term.specs.declared.term.Term.TheBlock.{Nil}
-use Rattle.iv_term.specs.declared.derivation.Derivation.TheBlock.{Assume}
-use Rattle.iv_kernel.specs.Goal.{goal_prop, premises_of, IsGoalProp}
+use Rattle.std.proofs.Common.{◌≡◌, ◌-◌, suc, sym, arith}
+use Rattle.iv_kernel.proofs.Laws.Goals.{leads-now, leads-on, leads-no}
 use Rattle.iv_kernel.proofs.goal.+leads_to.Goals as goal
 
--- src/goal.rt:142:9
 pub returns-then-count-eq0 : goal.returns-then-count-eq0
-returns-then-count-eq0 t c = ?
+returns-then-count-eq0 t c = leads-now _ _ _ _ (omega arith) c.is.ensures.equal
 
--- src/goal.rt:145:9
 pub returns-then-not-is_implication : goal.returns-then-not-is_implication
-returns-then-not-is_implication t c = ?
+returns-then-not-is_implication t c =
+    leads-no c.args.count (c.args.count - 1) _ _ _ (omega arith) c.if-not-is_implication.true c.is_implication.ensures
 
--- src/goal.rt:138:1
 pub returns : goal.returns
-returns t c = ?
+returns t c =
+    leads-on c.args.count (c.args.count - 1) _ _ _ (omega arith) (c.is_implication.ensures.0 c.if-not-is_implication.false)
+    (rw c.consequent.ensures at c.leads_to.ensures)

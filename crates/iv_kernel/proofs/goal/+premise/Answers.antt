@@ -1,16 +1,12 @@
-use Rattle.std.proofs.Common.{rules, ◌≡◌, ℕ, ◌-◌, ◌≤◌, ◌<◌, [], ◌∷◌, length, slice_get, Some, IfOk, IfErr, IsTrue, ◌↔◌, ◌+◌, ◌*◌, ◌/◌, ◌%◌, Bool, true, false, nat_eq, nat_lt, List, ◌++◌, slice_index_or, slice_set, bit_and, bit_or, Fits, w8, w32, w64, Bor, MutBor}
-use Rattle.iv_term.specs.Term.{imp, IsProposition}
-use Rattle.iv_term.specs.Derivation.{imp_intr}
-use Rattle.iv_term.specs.declared.want.Want.TheVariants.{Memory}
-use Rattle.iv_term.specs.declared.term.Term.TheBlock.{Nil}
-use Rattle.iv_term.specs.declared.derivation.Derivation.TheBlock.{Assume}
-use Rattle.iv_kernel.specs.Goal.{goal_prop, premises_of, IsGoalProp}
+use Rattle.std.proofs.Common.{◌≡◌, ◌-◌, ◌<◌, suc, sym, arith}
+use Rattle.iv_kernel.proofs.Laws.Goals.{premise-first, premise-later}
 use Rattle.iv_kernel.proofs.goal.+premise.Goals as goal
 
--- src/goal.rt:156:9
 pub returns-then-skipped-eq0 : goal.returns-then-skipped-eq0
-returns-then-skipped-eq0 t c = ?
+returns-then-skipped-eq0 t c =
+    rw c.antecedent.ensures (premise-first c.args.count (c.args.count - 1) c.args.prop.now c.args.skipped (omega arith) (omega arith))
 
--- src/goal.rt:151:1
 pub returns : goal.returns
-returns t c = ?
+returns t c =
+    premise-later c.args.count (c.args.count - 1) c.args.prop.now c.args.skipped (c.args.skipped - 1) _ (omega arith) (omega arith)
+    (rw c.consequent.ensures at c.premise.ensures)

@@ -1,12 +1,6 @@
-use Rattle.std.proofs.Common.{rules, ◌≡◌, ℕ, ◌-◌, ◌≤◌, ◌<◌, [], ◌∷◌, length, slice_get, Some, IfOk, IfErr, IsTrue, ◌↔◌, ◌+◌, ◌*◌, ◌/◌, ◌%◌, Bool, true, false, nat_eq, nat_lt, List, ◌++◌, slice_index_or, slice_set, bit_and, bit_or, Fits, w8, w32, w64, Bor, MutBor}
-use Rattle.iv_term.specs.Term.{imp, IsProposition}
-use Rattle.iv_term.specs.Derivation.{imp_intr}
-use Rattle.iv_term.specs.declared.want.Want.TheVariants.{Memory}
-use Rattle.iv_term.specs.declared.term.Term.TheBlock.{Nil}
-use Rattle.iv_term.specs.declared.derivation.Derivation.TheBlock.{Assume}
-use Rattle.iv_kernel.specs.Goal.{goal_prop, premises_of, IsGoalProp}
+use Rattle.std.proofs.Common.{◌≡◌, length, sym, ◌∙◌, ap}
+use Rattle.iv_kernel.proofs.Laws.Goals.{length-premises_of}
 use Rattle.iv_kernel.proofs.goal.Goal.count.Goals as goal
 
--- src/goal.rt:82:5
 pub returns : goal.returns
-returns c = ?
+returns c = sym (length-premises_of _ _) ∙ ap (λ g. length g.subgoals) c.self.view_is

@@ -1,12 +1,9 @@
-use Rattle.std.proofs.Common.{rules, ◌≡◌, ℕ, ◌-◌, ◌≤◌, ◌<◌, [], ◌∷◌, length, slice_get, Some, IfOk, IfErr, IsTrue, ◌↔◌, ◌+◌, ◌*◌, ◌/◌, ◌%◌, Bool, true, false, nat_eq, nat_lt, List, ◌++◌, slice_index_or, slice_set, bit_and, bit_or, Fits, w8, w32, w64, Bor, MutBor}
-use Rattle.iv_term.specs.Term.{imp, IsProposition}
-use Rattle.iv_term.specs.Derivation.{imp_intr}
-use Rattle.iv_term.specs.declared.want.Want.TheVariants.{Memory}
-use Rattle.iv_term.specs.declared.term.Term.TheBlock.{Nil}
-use Rattle.iv_term.specs.declared.derivation.Derivation.TheBlock.{Assume}
-use Rattle.iv_kernel.specs.Goal.{goal_prop, premises_of, IsGoalProp}
+use Rattle.std.proofs.Common.{◌≡◌, length, [], sym, ◌∙◌, ap, subst, arith}
+use Rattle.iv_kernel.proofs.Laws.Goals.{length-premises_of, none-left}
+use Rattle.iv_kernel.specs.Goal.{IsGoalProp}
 use Rattle.iv_kernel.proofs.goal.Goal.finish.Goals as goal
 
--- src/goal.rt:113:5
 pub returns-clause-prop : goal.returns-clause-prop
-returns-clause-prop c = ?
+returns-clause-prop c =
+    let n : c.self.inside.count ≡ 0 = sym (length-premises_of _ _) ∙ ap (λ g. length g.subgoals) c.self.view_is ∙ ap length c.requires in
+    none-left _ _ (subst (λ k. IsGoalProp k c.self.inside.thm.prop c.self.inside.claim) n c.self.invariant) ∙ ap (λ g. g.claim) c.self.view_is

@@ -1,20 +1,17 @@
-use Rattle.std.proofs.Common.{rules, ◌≡◌, ℕ, ◌-◌, ◌≤◌, ◌<◌, [], ◌∷◌, length, slice_get, Some, IfOk, IfErr, IsTrue, ◌↔◌, ◌+◌, ◌*◌, ◌/◌, ◌%◌, Bool, true, false, nat_eq, nat_lt, List, ◌++◌, slice_index_or, slice_set, bit_and, bit_or, Fits, w8, w32, w64, Bor, MutBor}
-use Rattle.iv_term.specs.Term.{imp, IsProposition}
-use Rattle.iv_term.specs.Derivation.{imp_intr}
-use Rattle.iv_term.specs.declared.want.Want.TheVariants.{Memory}
-use Rattle.iv_term.specs.declared.term.Term.TheBlock.{Nil}
-use Rattle.iv_term.specs.declared.derivation.Derivation.TheBlock.{Assume}
-use Rattle.iv_kernel.specs.Goal.{goal_prop, premises_of, IsGoalProp}
+use Rattle.std.proofs.Common.{◌≡◌, ◌∷◌, [], sym, ◌∙◌, ap}
+use Rattle.iv_term.specs.Term.{imp}
+use Rattle.iv_kernel.proofs.Laws.Goals.{one-premise, premises-one, without-only}
 use Rattle.iv_kernel.proofs.goal.Goal.init.Goals as goal
 
--- src/goal.rt:53:9
 pub invariant_of-result : goal.invariant_of-result
-invariant_of-result c = ?
+invariant_of-result c =
+    let e : c.in_ok-thm.thm.prop ≡ imp c.args.claim.now c.args.claim.now = c.in_ok-thm.ensures.prop ∙ ap (imp c.args.claim.now) c.in_ok-assumed.ensures.prop in
+    rw c.in_ok-claim.ensures.ok (one-premise _ _ e)
 
--- src/goal.rt:42:5
 pub returns-clause-subgoals : goal.returns-clause-subgoals
-returns-clause-subgoals c = ?
+returns-clause-subgoals c =
+    let e : c.in_ok-thm.thm.prop ≡ imp c.args.claim.now c.args.claim.now = c.in_ok-thm.ensures.prop ∙ ap (imp c.args.claim.now) c.in_ok-assumed.ensures.prop in
+    premises-one _ _ e
 
--- src/goal.rt:42:5
 pub returns-clause-hyps : goal.returns-clause-hyps
-returns-clause-hyps c = ?
+returns-clause-hyps c = rw (c.in_ok-thm.ensures.hyps, c.in_ok-assumed.ensures.hyps) (without-only _)
