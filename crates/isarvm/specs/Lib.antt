@@ -1,2 +1,4 @@
 pub mod Byte
 pub mod Token
+pub mod Piece
+pub mod Place

@@ -22,10 +22,10 @@ pub fn is_word_byte(byte: u8) -> bool
     byte.is_ascii_alphanumeric() || byte == b'_'
 }
 
-/// The bytes from this offset on.
-pub fn bytes_from(document: &[u8], at: usize) -> &[u8]
-    requires { at ≤ length document.now }
-    ensures { result.now ≡ drop at document.now }
+/// The items from this place on.
+pub fn rest_from<T>(items: &[T], from: usize) -> &[T]
+    requires { from ≤ length items.now }
+    ensures { result.now ≡ drop from items.now }
 {
-    &document[at..]
+    &items[from..]
 }

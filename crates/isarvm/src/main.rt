@@ -2,6 +2,8 @@
 #![tactic(auto)]
 
 pub mod bytes;
+pub mod pieces;
+pub mod places;
 pub mod tokens;
 
 fn main() {}

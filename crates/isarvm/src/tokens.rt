@@ -1,10 +1,10 @@
 ghost use Rattle.std.specs.Prelude.{◌≡◌, ◌≤◌, ◌+◌, length, drop, position, take_while, IfOk, IfErr};
 ghost use Rattle.std.specs.List.{All};
 ghost use Rattle.iv_term.specs.declared.want.Want.TheVariants.{Memory};
-ghost use Rattle.isarvm.specs.Token.{begun_by, kind_at, more_at, tokens_of, IsWithin};
+ghost use Rattle.isarvm.specs.Token.{begun_by, kind_at, more_at, spelt, tokens_of, IsWithin};
 ghost use Rattle.isarvm.specs.Byte.{is_quote, is_word_byte};
 
-use crate::bytes::{bytes_from, is_blank, is_letter, is_word_byte};
+use crate::bytes::{is_blank, is_letter, is_word_byte, rest_from};
 use iv_term::Mem;
 use iv_text::Pos;
 use std::alloc::Global;
@@ -34,6 +34,15 @@ pub struct Token {
     pub at: Pos,
     /// The offset behind its last byte.
     pub end: Pos,
+}
+
+/// The bytes of a token.
+pub fn spelt(document: &[u8], token: Token) -> &[u8]
+    requires { IsWithin document.now token }
+    ensures { result.now ≡ spelt document.now token }
+{
+    let rest = rest_from(document, token.at.0 as usize);
+    &rest[..token.end.0 as usize - token.at.0 as usize]
 }
 
 /// What a byte that is no blank begins, where `rest` stands after it.
@@ -94,6 +103,7 @@ fn more_at(byte: u8, rest: &[u8]) -> usize
 pub fn tokens(alloc: Global, document: &[u8]) -> Mem<Vec<Token>>
     requires small { length document.now ≤ 4194304 }
     ensures ok { IfOk result (λ v. v.items ≡ tokens_of document.now) }
+    ensures few { IfOk result (λ v. length v.items ≤ length document.now) }
     ensures within { IfOk result (λ v. All (IsWithin document.now) v.items) }
     ensures memory { IfErr result (λ w. w ≡ Memory) }
 {
@@ -101,7 +111,7 @@ pub fn tokens(alloc: Global, document: &[u8]) -> Mem<Vec<Token>>
     let mut at = 0;
     while at < document.len() {
         let byte = document[at];
-        let rest = bytes_from(document, at + 1);
+        let rest = rest_from(document, at + 1);
         let end = at + 1 + more_at(byte, rest);
         if let Some(kind) = kind_at(byte, rest) {
             found.push(Token {

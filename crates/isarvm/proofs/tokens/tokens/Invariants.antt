@@ -7,6 +7,7 @@ abbrev pub invariant-loop-at : goal.invariant-loop-at
 invariant-loop-at l = record {
   inside : l.at ≤ length l.document;
   so_far : l.found.items ++ tokens_from 0 l.at (drop l.at l.document) ≡ tokens_of l.document;
+  few : length l.found.items ≤ l.at;
   within : All (IsWithin l.document) l.found.items;
 }
 
