@@ -2,3 +2,5 @@ pub mod Byte
 pub mod Token
 pub mod Piece
 pub mod Place
+pub mod Reading
+pub mod Command

@@ -2,8 +2,11 @@
 #![tactic(auto)]
 
 pub mod bytes;
+pub mod commands;
+pub mod parts;
 pub mod pieces;
 pub mod places;
+pub mod reading;
 pub mod tokens;
 
 fn main() {}

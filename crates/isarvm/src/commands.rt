@@ -1,0 +1,81 @@
+ghost use Rattle.std.specs.Prelude.{◌≡◌, ◌≤◌, ◌<◌, length, map, IfOk, IfErr};
+ghost use Rattle.std.specs.List.{All};
+ghost use Rattle.iv_term.specs.declared.want.Want.TheVariants.{Memory};
+ghost use Rattle.isarvm.specs.Token.{IsWithin};
+ghost use Rattle.isarvm.specs.Command.{lexeme, lemma_form, after_lemma, after_by, form_after, command_of, commands_of};
+
+use crate::parts::Parts;
+use crate::pieces::{Word, split};
+use crate::reading::{reading_of, text_of, unquoted};
+use crate::tokens::{Kind, Token, spelt, tokens};
+use iv_term::{Mem, Text};
+use iv_text::Pos;
+use std::alloc::Global;
+
+/// What a command says.
+#[derive(Drop)]
+pub enum Form {
+    /// `lemma NAME: "PROP A ==> .. ==> PROP C"`: its name, and the names in its proposition, in order.
+    Lemma(Text, Parts),
+    /// `by assumption`
+    ByAssumption,
+    /// `oops`
+    Oops,
+    /// `end`
+    End,
+    /// Anything else.
+    Unreadable,
+}
+
+/// A command of a document.
+#[derive(Drop)]
+pub struct Command {
+    /// Where its first token begins.
+    pub at: Pos,
+    /// Its first token, if that is a command word.
+    pub word: Word,
+    /// What it says.
+    pub form: Form,
+}
+
+/// The form of `lemma`, with these tokens after it.
+fn after_lemma(alloc: Global, document: &[u8], rest: &[Token]) -> Mem<Form>
+    requires { All (IsWithin document.now) rest.now }
+    ensures ok { IfOk result (λ form. form ≡ after_lemma (map (lexeme document.now) rest.now)) }
+    ensures memory { IfErr result (λ w. w ≡ Memory) }
+{
+    let [name, colon, text] = rest else {
+        return Ok(Form::Unreadable);
+    };
+    match (name.kind, colon.kind, text.kind) {
+        (Kind::Word, Kind::Colon, Kind::Quoted) => {
+            let reading = reading_of(alloc, unquoted(spelt(document, *text)))?;
+            let name = text_of(alloc, spelt(document, *name))?;
+            Ok(lemma_form(name, reading))
+        }
+        _ => Ok(Form::Unreadable),
+    }
+}
+
+/// A lemma of this name, if its proposition reads.
+fn lemma_form(name: Text, reading: Option<Parts>) -> Form
+    ensures { result ≡ lemma_form name reading }
+{
+    match reading {
+        Some(parts) => Form::Lemma(name, parts),
+        None => Form::Unreadable,
+    }
+}
+
+/// The form of `by`, with these tokens after it.
+fn after_by(document: &[u8], rest: &[Token]) -> Form
+    requires { All (IsWithin document.now) rest.now }
+    ensures { result ≡ after_by (map (lexeme document.now) rest.now) }
+{
+    match rest {
+        [method]
+            if method.kind == Kind::Word && spelt(document, *method) == b"assumption".as_slice() =>
+            { Form::ByAssumption }
+        _ => Form::Unreadable,
+    }
+}
