@@ -7,6 +7,8 @@ pub mod parts;
 pub mod pieces;
 pub mod places;
 pub mod reading;
+#[cfg(test)]
+mod tests;
 pub mod tokens;
 
 fn main() {}

@@ -124,31 +124,3 @@ pub fn tokens(alloc: Global, document: &[u8]) -> Mem<Vec<Token>>
     }
     Ok(found)
 }
-
-#[cfg(test)]
-mod tests {
-    use super::*;
-    use std::test::Fail;
-
-    fn listed(rt: &HostRuntime, text: &str) -> Result<String, Fail> {
-        let mut out = String::new(rt.alloc());
-        let document = text.as_bytes();
-        if document.len() <= LIMIT {
-            for token in &tokens(rt.alloc(), document)? {
-                let Token { kind, at, end } = *token;
-                write!(&mut out, "{kind:?} {}-{} ", at.0, end.0)?;
-            }
-        }
-        Ok(out)
-    }
-
-    #[test]
-    fn tokens_of_a_lemma(rt: HostRuntime) -> Result<(), Fail> {
-        let text = listed(&rt, "lemma a_1: \"P\"\n9")?;
-        assert_eq!(rt;
-            text.as_str(),
-            "Word 0-5 Word 6-9 Colon 9-10 Quoted 11-14 Bad 15-16 "
-        );
-        Ok(())
-    }
-}
