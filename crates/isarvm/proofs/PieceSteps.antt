@@ -1,11 +1,13 @@
 -- Steps of the cutting of tokens into pieces.
-use Rattle.std.proofs.Common.{◌≡◌, ℕ, ◌+◌, ◌<◌, ◌≤◌, suc, zero, Bool, true, false, List, [], ◌∷◌, ◌++◌, length, get_or, take, drop, map, refl, ap, sym, ◌∙◌, arith, drop-cons, add-one, length-drop, append_assoc, add_comm, one-add, ltb-false, not}
+use Rattle.std.proofs.Common.{◌≡◌, ℕ, ◌+◌, ◌<◌, ◌≤◌, suc, zero, Bool, true, false, List, [], ◌∷◌, ◌++◌, length, get_or, take, drop, map, refl, ap, sym, ◌∙◌, arith, drop-cons, add-one, length-drop, append_assoc, append-nil, one-add, ltb-false, not}
 use Rattle.std.specs.Prelude.{Option, Some, None, unwrap_or, position, nat_lt, cond}
 use Rattle.std.proofs.lemmas.List.Sums.{prefix_len-le-length}
 use Rattle.std.proofs.lemmas.Bool.Decides.{nat_tests}
 use Rattle.std.proofs.lemmas.List.{drop-drop, map-append}
+use Rattle.std.proofs.lemmas.List.Concat.{flat_map-append}
+use Rattle.std.proofs.Math.Seq.{take-add}
 use Rattle.std.proofs.lemmas.Grind.{common_steps}
-use Rattle.std.specs.List.{All, position_or_len, onto_first}
+use Rattle.std.specs.List.{All, flat_map, position_or_len, onto_first}
 use Rattle.isarvm.specs.declared.tokens.Token.{Token}
 use Rattle.isarvm.specs.declared.tokens.Kind.TheVariants.{Bad}
 use Rattle.isarvm.specs.Token.{token_from}
@@ -58,3 +60,8 @@ runs_more tokens first n found l fits before =
     let inside : first + (1 + n) ≤ length tokens = omega (arith, fits, length-drop (first + 1) tokens) in
     let one : IsRun tokens (record { first = first; count = 1 + n }) = record { nonempty = omega arith; inside = inside } in
     grind (arith, common_steps, one)
+
+-- the runs, one after another, with one more
+pub joined_more : (tokens : List Token) (first n : ℕ) (found : List Piece) → flat_map (run_of tokens) found ≡ take first tokens → flat_map (run_of tokens) (found ++ record { first = first; count = 1 + n } ∷ []) ≡ take (first + (1 + n)) tokens
+joined_more tokens first n found before =
+    rw (flat_map-append, before, append-nil, take-add first (1 + n) tokens) refl

@@ -1,5 +1,5 @@
 -- The bytes of a document. Of this project.
-use Rattle.std.specs.Prelude.{ℕ, Bool, ◌||◌, ◌==◌}
+use Rattle.std.specs.Prelude.{ℕ, Bool, ◌||◌, ◌==◌, not, List, filter}
 use Rattle.std.specs.Char.{is_ascii_alphabetic, is_ascii_alphanumeric}
 
 -- a space, tab, line feed or carriage return
@@ -17,3 +17,7 @@ is_word_byte b = is_ascii_alphanumeric b || b == 95
 -- a `"`
 abbrev pub is_quote : ℕ → Bool
 is_quote b = b == 34
+
+-- a text without its blanks
+abbrev pub visible : List ℕ → List ℕ
+visible text = filter (λ b. not (is_blank b)) text

@@ -1,5 +1,5 @@
 use Rattle.std.proofs.Common.{arith, ◌≡◌, ◌≤◌, ◌+◌, length, drop, refl, length-drop, length-append}
-use Rattle.isarvm.proofs.TokenSteps.{after_token, after_blank, within_more}
+use Rattle.isarvm.proofs.TokenSteps.{after_token, after_blank, kept_token, kept_blank, within_more}
 use Rattle.isarvm.proofs.tokens.tokens.Goals as goal
 
 pub loop-at-preserved-in_ok-push : goal.loop-at-preserved-in_ok-push
@@ -10,6 +10,7 @@ loop-at-preserved-in_ok-push c =
     record {
       inside = omega (arith, fits, length-drop (c.loop-at.at + 1) c.args.document.now);
       so_far = rw c.in_ok-push.ensures.items (after_token _ _ _ _ c.in-Some.kind c.loop-at-test.true more fits mark c.loop-at.invariant.so_far);
+      kept = rw c.in_ok-push.ensures.items (kept_token _ _ _ c.loop-at.found.items c.in-Some.kind c.loop-at.invariant.kept);
       few = rw c.in_ok-push.ensures.items (omega (arith, length-append c.loop-at.found.items));
       within = rw c.in_ok-push.ensures.items (within_more _ _ _ _ c.in-Some.kind c.loop-at-test.true fits c.loop-at.invariant.within);
     }
@@ -22,6 +23,7 @@ loop-at-preserved c =
     record {
       inside = omega (arith, fits, length-drop (c.loop-at.at + 1) c.args.document.now);
       so_far = after_blank _ _ _ _ c.loop-at-test.true more fits mark c.loop-at.invariant.so_far;
+      kept = kept_blank _ _ _ c.loop-at.found.items c.loop-at-test.true more mark c.loop-at.invariant.kept;
       few = omega arith;
       within = c.loop-at.invariant.within;
     }
