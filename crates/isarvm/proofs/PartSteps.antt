@@ -1,10 +1,10 @@
 -- Steps of the reading of parts.
-use Rattle.std.proofs.Common.{◌≡◌, ℕ, ◌+◌, ◌-◌, ◌<◌, ◌≤◌, suc, zero, Bool, true, false, cond, not, List, [], ◌∷◌, ◌++◌, length, get_or, take, drop, refl, ap, sym, ◌∙◌, arith, add-one, one-add, length-drop, append_assoc, append-nil}
+use Rattle.std.proofs.Common.{◌≡◌, ℕ, ◌<◌, ◌≤◌, suc, zero, Bool, true, false, List, [], ◌∷◌, ◌++◌, length, take, drop, refl, ap, sym, ◌∙◌, arith, append_assoc, append-nil}
 use Rattle.std.proofs.Math.Seq.{drop-length, take-length}
 use Rattle.std.specs.Prelude.{nat_eq, codes, Option, Some, None}
 use Rattle.std.specs.Option.{option_map}
 use Rattle.std.specs.List.{starts_with, onto_first}
-use Rattle.isarvm.specs.Reading.{parts_of, parts_from, name_before, names_in, name_in, name_in_words, words_of, word_before, is_name}
+use Rattle.isarvm.specs.Reading.{parts_of, name_before}
 
 -- an arrow stands at a place
 abbrev pub arrow_at : List ℕ → ℕ → Bool

@@ -1,5 +1,5 @@
 -- The commands of a document. Of this project.
-use Rattle.std.specs.Prelude.{ℕ, Bool, List, [], ◌∷◌, map, if◌then◌else◌, codes, Option, Some, None}
+use Rattle.std.specs.Prelude.{ℕ, List, [], ◌∷◌, map, if◌then◌else◌, codes, Option, Some, None}
 use Rattle.std.specs.Str.{bytes_eq}
 use Rattle.isarvm.specs.declared.tokens.Kind.{Kind}
 use Rattle.isarvm.specs.declared.tokens.Kind.TheVariants as kind

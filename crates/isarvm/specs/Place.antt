@@ -1,5 +1,5 @@
 -- Lines and columns. Of this project.
-use Rattle.std.specs.Prelude.{◌≡◌, ◌≤◌, ℕ, ◌+◌, Bool, List, length, take, count_by, ◌==◌}
+use Rattle.std.specs.Prelude.{◌≡◌, ℕ, ◌+◌, Bool, List, length, take, count_by, ◌==◌}
 use Rattle.std.specs.List.{after_last}
 use Rattle.isarvm.specs.declared.places.Cursor.{Cursor}
 

@@ -1,5 +1,5 @@
 -- How a quoted proposition reads: `PROP NAME`, one or more times, joined by `==>`. Of this project.
-use Rattle.std.specs.Prelude.{ℕ, ◌-◌, Bool, true, false, zero, suc, List, [], ◌∷◌, length, take, drop, filter, map, if◌then◌else◌, ◌&&◌, not, nat_eq, codes, Option, Some, None}
+use Rattle.std.specs.Prelude.{ℕ, ◌-◌, Bool, true, false, zero, suc, List, [], ◌∷◌, length, take, drop, filter, if◌then◌else◌, ◌&&◌, not, nat_eq, codes, Option, Some, None}
 use Rattle.std.specs.List.{onto_first, slice_split, starts_with, list_all}
 use Rattle.std.specs.Str.{bytes_eq}
 use Rattle.isarvm.specs.Byte.{is_blank, is_letter, is_word_byte}

@@ -1,7 +1,6 @@
 -- The tokens of a document. Of this project.
-use Rattle.std.specs.Prelude.{◌≡◌, ◌≤◌, ℕ, ◌+◌, ◌-◌, suc, zero, Bool, List, [], ◌∷◌, ◌++◌, length, take, drop, Option, Some, None, option_to_list, if◌then◌else◌, ◌==◌, ◌&&◌, position, take_while, is_some}
+use Rattle.std.specs.Prelude.{◌≤◌, ℕ, ◌+◌, ◌-◌, suc, zero, List, [], ◌∷◌, ◌++◌, length, take, drop, Option, Some, None, option_to_list, if◌then◌else◌, ◌==◌, ◌&&◌, position, take_while, is_some}
 use Rattle.std.specs.Option.{option_map, option_map_or}
-use Rattle.iv_text.specs.declared.Pos.{Pos}
 use Rattle.isarvm.specs.declared.tokens.Kind.{Kind}
 use Rattle.isarvm.specs.declared.tokens.Kind.TheVariants.{Word, Colon, Quoted, Bad}
 use Rattle.isarvm.specs.declared.tokens.Token.{Token}

@@ -9,7 +9,7 @@ use crate::bytes::rest_from;
 use crate::parts::Parts;
 use crate::pieces::{Piece, Word, split};
 use crate::reading::{reading_of, text_of, unquoted};
-use crate::tokens::{Kind, Token, spelt, tokens};
+use crate::tokens::{Kind, LIMIT, Token, spelt, tokens};
 use iv_term::{Mem, Text};
 use iv_text::Pos;
 use std::alloc::Global;
@@ -136,7 +136,7 @@ fn commands_in(
 
 /// The commands of a document, in order. Fails where memory runs out.
 pub fn commands(alloc: Global, document: &[u8]) -> Mem<Vec<Command>>
-    requires small { length document.now ≤ 4194304 }
+    requires small { length document.now ≤ LIMIT }
     ensures ok { IfOk result (λ v. v.items ≡ commands_of document.now) }
     ensures memory { IfErr result (λ w. w ≡ Memory) }
 {

@@ -5,7 +5,7 @@ ghost use Rattle.isarvm.specs.Token.{IsWithin};
 ghost use Rattle.isarvm.specs.Piece.{word_spelt, word_of, is_command, begins, pieces_of, run_of, IsRun};
 
 use crate::bytes::rest_from;
-use crate::tokens::{Kind, Token, spelt};
+use crate::tokens::{Kind, LIMIT, Token, spelt};
 use iv_term::Mem;
 use std::alloc::Global;
 
@@ -106,7 +106,7 @@ fn before_command(document: &[u8], tokens: &[Token]) -> usize
 
 /// The pieces of a document whose tokens these are, in order. Fails where memory runs out.
 pub fn split(alloc: Global, document: &[u8], tokens: &[Token]) -> Mem<Vec<Piece>>
-    requires few { length tokens.now ≤ 4194304 }
+    requires few { length tokens.now ≤ LIMIT }
     requires within { All (IsWithin document.now) tokens.now }
     ensures ok { IfOk result (λ v. map (run_of tokens.now) v.items ≡ pieces_of document.now tokens.now) }
     ensures joined { IfOk result (λ v. flat_map (run_of tokens.now) v.items ≡ tokens.now) }

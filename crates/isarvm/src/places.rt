@@ -1,6 +1,7 @@
 ghost use Rattle.std.specs.Prelude.{◌≡◌, ◌≤◌, List, ℕ, length};
 ghost use Rattle.isarvm.specs.Place.{line_of, column_of, IsAt};
 
+use crate::tokens::LIMIT;
 use iv_text::Pos;
 
 /// A place in a document with its line and column, which walks forward.
@@ -29,7 +30,7 @@ impl Cursor {
 
     /// Walks forward to `to`, and says its line and column. It takes time in the bytes walked.
     pub fn advance(&mut self, document: &[u8], to: Pos) -> (u32, u32)
-        requires small { length document.now ≤ 4194304 }
+        requires small { length document.now ≤ LIMIT }
         requires inside { to.0 ≤ length document.now }
         requires forward { self.old.at.0 ≤ to.0 }
         requires place { IsAt document.now self.old }

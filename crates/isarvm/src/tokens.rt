@@ -101,7 +101,7 @@ fn more_at(byte: u8, rest: &[u8]) -> usize
 
 /// The tokens of a document, in order. Fails where memory runs out.
 pub fn tokens(alloc: Global, document: &[u8]) -> Mem<Vec<Token>>
-    requires small { length document.now ≤ 4194304 }
+    requires small { length document.now ≤ LIMIT }
     ensures ok { IfOk result (λ v. v.items ≡ tokens_of document.now) }
     ensures kept { IfOk result (λ v. visible (flat_map (spelt document.now) v.items) ≡ visible document.now) }
     ensures few { IfOk result (λ v. length v.items ≤ length document.now) }

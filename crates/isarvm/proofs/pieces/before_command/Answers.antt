@@ -1,4 +1,4 @@
-use Rattle.isarvm.proofs.PieceSteps.{place_found, place_within}
+use Rattle.isarvm.proofs.PieceSteps.{place_found}
 use Rattle.std.proofs.Common.{◌∙◌}
 use Rattle.isarvm.proofs.pieces.before_command.Goals as goal
 

@@ -1,4 +1,4 @@
-use Rattle.std.proofs.Common.{arith, ◌+◌, length, sym, refl}
+use Rattle.std.proofs.Common.{arith, sym, refl}
 use Rattle.isarvm.proofs.PartSteps.{part_found, one_part}
 use Rattle.isarvm.proofs.reading.next_part.Goals as goal
 

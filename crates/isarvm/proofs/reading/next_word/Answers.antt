@@ -1,4 +1,3 @@
-use Rattle.std.proofs.Common.{rules}
 use Rattle.isarvm.proofs.WordSteps.{first_word}
 use Rattle.isarvm.proofs.reading.next_word.Goals as goal
 

@@ -1,4 +1,4 @@
-use Rattle.std.proofs.Common.{arith, ◌≡◌, ◌≤◌, ◌+◌, length, drop, refl, length-drop, length-append}
+use Rattle.std.proofs.Common.{arith, ◌+◌, length-drop, length-append}
 use Rattle.isarvm.proofs.TokenSteps.{after_token, after_blank, kept_token, kept_blank, within_more}
 use Rattle.isarvm.proofs.tokens.tokens.Goals as goal
 

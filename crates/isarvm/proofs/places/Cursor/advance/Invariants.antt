@@ -1,4 +1,4 @@
-use Rattle.std.proofs.Common.{◌≡◌, ◌≤◌}
+use Rattle.std.proofs.Common.{◌≡◌}
 use Rattle.isarvm.specs.Place.{line_of, column_of}
 use Rattle.isarvm.proofs.places.Cursor.advance.Given as goal
 
