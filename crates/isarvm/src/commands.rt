@@ -41,7 +41,7 @@ pub struct Command {
 }
 
 /// The form of `lemma`, with these tokens after it.
-fn after_lemma(alloc: Global, document: &[u8], rest: &[Token]) -> Mem<Form>
+pub fn after_lemma(alloc: Global, document: &[u8], rest: &[Token]) -> Mem<Form>
     requires { All (IsWithin document.now) rest.now }
     ensures ok { IfOk result (λ form. form ≡ after_lemma (map (lexeme document.now) rest.now)) }
     ensures memory { IfErr result (λ w. w ≡ Memory) }
@@ -60,7 +60,7 @@ fn after_lemma(alloc: Global, document: &[u8], rest: &[Token]) -> Mem<Form>
 }
 
 /// A lemma of this name, if its proposition reads.
-fn lemma_form(name: Text, reading: Option<Parts>) -> Form
+pub fn lemma_form(name: Text, reading: Option<Parts>) -> Form
     ensures { result ≡ lemma_form name reading }
 {
     match reading {
@@ -70,7 +70,7 @@ fn lemma_form(name: Text, reading: Option<Parts>) -> Form
 }
 
 /// The form of `by`, with these tokens after it.
-fn after_by(document: &[u8], rest: &[Token]) -> Form
+pub fn after_by(document: &[u8], rest: &[Token]) -> Form
     requires { All (IsWithin document.now) rest.now }
     ensures { result ≡ after_by (map (lexeme document.now) rest.now) }
 {
@@ -83,7 +83,7 @@ fn after_by(document: &[u8], rest: &[Token]) -> Form
 }
 
 /// The form of a command word, with these tokens after it.
-fn form_after(alloc: Global, document: &[u8], word: Word, rest: &[Token]) -> Mem<Form>
+pub fn form_after(alloc: Global, document: &[u8], word: Word, rest: &[Token]) -> Mem<Form>
     requires { All (IsWithin document.now) rest.now }
     ensures ok { IfOk result (λ form. form ≡ form_after word (map (lexeme document.now) rest.now)) }
     ensures memory { IfErr result (λ w. w ≡ Memory) }
@@ -115,7 +115,7 @@ pub fn read_command(alloc: Global, document: &[u8], tokens: &[Token]) -> Mem<Com
 }
 
 /// The commands that these pieces are read as.
-fn commands_in(
+pub fn commands_in(
     alloc: Global,
     document: &[u8],
     tokens: &[Token],

@@ -35,7 +35,7 @@ pub struct Piece {
 
 impl Word {
     /// The command word of these letters.
-    fn spelt(text: &[u8]) -> Word
+    pub fn spelt(text: &[u8]) -> Word
         ensures { result ≡ word_spelt text.now }
     {
         if text == b"lemma".as_slice() {
@@ -86,7 +86,7 @@ impl Piece {
 }
 
 /// Where the next token that begins a piece is.
-fn next_command(document: &[u8], tokens: &[Token]) -> Option<usize>
+pub fn next_command(document: &[u8], tokens: &[Token]) -> Option<usize>
     requires { All (IsWithin document.now) tokens.now }
     ensures { result ≡ position (begins document.now) tokens.now }
 {
@@ -96,7 +96,7 @@ fn next_command(document: &[u8], tokens: &[Token]) -> Option<usize>
 }
 
 /// How many tokens come before the next that begins a piece.
-fn before_command(document: &[u8], tokens: &[Token]) -> usize
+pub fn before_command(document: &[u8], tokens: &[Token]) -> usize
     requires { All (IsWithin document.now) tokens.now }
     ensures count { result ≡ position_or_len (begins document.now) tokens.now }
     ensures within { result ≤ length tokens.now }

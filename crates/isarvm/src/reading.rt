@@ -12,7 +12,7 @@ use iv_term::{Mem, Text};
 use std::alloc::Global;
 
 /// How many blanks stand before anything else.
-fn leading_blanks(text: &[u8]) -> usize
+pub fn leading_blanks(text: &[u8]) -> usize
     ensures count { result ≡ prefix_len is_blank text.now }
     ensures within { result ≤ length text.now }
 {
@@ -20,7 +20,7 @@ fn leading_blanks(text: &[u8]) -> usize
 }
 
 /// How many bytes come before the first blank.
-fn before_blank(text: &[u8]) -> usize
+pub fn before_blank(text: &[u8]) -> usize
     ensures count { result ≡ position_or_len is_blank text.now }
     ensures within { result ≤ length text.now }
 {
@@ -28,7 +28,7 @@ fn before_blank(text: &[u8]) -> usize
 }
 
 /// The first word of a text, empty where it has none, and what stands behind it.
-fn next_word(text: &[u8]) -> (&[u8], &[u8])
+pub fn next_word(text: &[u8]) -> (&[u8], &[u8])
     ensures { words_of text.now ≡ word_before result.0.now (words_of result.1.now) }
 {
     let text = rest_from(text, leading_blanks(text));
@@ -37,14 +37,14 @@ fn next_word(text: &[u8]) -> (&[u8], &[u8])
 }
 
 /// Whether all are bytes of words.
-fn are_word_bytes(text: &[u8]) -> bool
+pub fn are_word_bytes(text: &[u8]) -> bool
     ensures { result ≡ list_all is_word_byte text.now }
 {
     text.iter().all(|byte| is_word_byte(*byte))
 }
 
 /// Whether a text may name a proposition: a word other than `PROP`.
-fn is_name(text: &[u8]) -> bool
+pub fn is_name(text: &[u8]) -> bool
     ensures { result ≡ is_name text.now }
 {
     match text.first() {
@@ -56,7 +56,7 @@ fn is_name(text: &[u8]) -> bool
 }
 
 /// The name in the part `PROP NAME`, or nothing where it is no such part.
-fn name_in(part: &[u8]) -> Option<&[u8]>
+pub fn name_in(part: &[u8]) -> Option<&[u8]>
     ensures { option_copied result ≡ name_in part.now }
 {
     let (prop, rest) = next_word(part);
@@ -70,7 +70,7 @@ fn name_in(part: &[u8]) -> Option<&[u8]>
 }
 
 /// The text before the first `==>`, and what stands behind that, if there is one.
-fn next_part(text: &[u8]) -> (&[u8], Option<&[u8]>)
+pub fn next_part(text: &[u8]) -> (&[u8], Option<&[u8]>)
     ensures parts { parts_of text.now ≡ result.0.now ∷ parts_after (option_copied result.1) }
     ensures shorter { IfSome result.1 (λ rest. length rest.now < length text.now) }
 {

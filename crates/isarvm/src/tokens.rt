@@ -46,7 +46,7 @@ pub fn spelt(document: &[u8], token: Token) -> &[u8]
 }
 
 /// What a byte that is no blank begins, where `rest` stands after it.
-fn begun_by(byte: u8, rest: &[u8]) -> Kind
+pub fn begun_by(byte: u8, rest: &[u8]) -> Kind
     ensures { result ≡ begun_by byte rest.now }
 {
     if is_letter(byte) {
@@ -61,7 +61,7 @@ fn begun_by(byte: u8, rest: &[u8]) -> Kind
 }
 
 /// What a byte begins, where `rest` stands after it: nothing where it is a blank.
-fn kind_at(byte: u8, rest: &[u8]) -> Option<Kind>
+pub fn kind_at(byte: u8, rest: &[u8]) -> Option<Kind>
     ensures { result ≡ kind_at byte rest.now }
 {
     if is_blank(byte) {
@@ -72,21 +72,21 @@ fn kind_at(byte: u8, rest: &[u8]) -> Option<Kind>
 }
 
 /// Where the next quote is.
-fn quote_in(rest: &[u8]) -> Option<usize>
+pub fn quote_in(rest: &[u8]) -> Option<usize>
     ensures { result ≡ position is_quote rest.now }
 {
     rest.iter().position(|byte| *byte == b'"')
 }
 
 /// How many bytes of `rest` go on with a word.
-fn word_bytes(rest: &[u8]) -> usize
+pub fn word_bytes(rest: &[u8]) -> usize
     ensures { result ≡ length (take_while is_word_byte rest.now) }
 {
     rest.iter().take_while(|byte| is_word_byte(**byte)).count()
 }
 
 /// How many bytes of `rest` belong to what `byte` begins before them.
-fn more_at(byte: u8, rest: &[u8]) -> usize
+pub fn more_at(byte: u8, rest: &[u8]) -> usize
     ensures more { result ≡ more_at byte rest.now }
     ensures within { result ≤ length rest.now }
 {
