@@ -1,0 +1,15 @@
+use Rattle.std.proofs.Common.{◌≡◌, ◌≤◌, ◌-◌, ◌++◌, length, drop, take, map}
+use Rattle.std.specs.List.{All, flat_map}
+use Rattle.isarvm.specs.Piece.{pieces_of, run_of, IsRun}
+use Rattle.isarvm.proofs.pieces.split.Given as goal
+
+abbrev pub invariant-loop-first : goal.invariant-loop-first
+invariant-loop-first l = record {
+  inside : l.first ≤ length l.tokens;
+  so_far : map (run_of l.tokens) l.found.items ++ pieces_of l.document (drop l.first l.tokens) ≡ pieces_of l.document l.tokens;
+  joined : flat_map (run_of l.tokens) l.found.items ≡ take l.first l.tokens;
+  runs : All (IsRun l.tokens) l.found.items;
+}
+
+abbrev pub decreases-loop-first : goal.decreases-loop-first
+decreases-loop-first l = length l.tokens - l.first

@@ -1,0 +1,17 @@
+use Rattle.std.proofs.Common.{◌≡◌, ◌≤◌, ◌-◌, ◌++◌, length, drop, take}
+use Rattle.std.specs.List.{All, flat_map}
+use Rattle.isarvm.specs.Token.{tokens_from, tokens_of, spelt, IsWithin}
+use Rattle.isarvm.specs.Byte.{visible}
+use Rattle.isarvm.proofs.tokens.tokens.Given as goal
+
+abbrev pub invariant-loop-at : goal.invariant-loop-at
+invariant-loop-at l = record {
+  inside : l.at ≤ length l.document;
+  so_far : l.found.items ++ tokens_from 0 l.at (drop l.at l.document) ≡ tokens_of l.document;
+  kept : visible (flat_map (spelt l.document) l.found.items) ≡ visible (take l.at l.document);
+  few : length l.found.items ≤ l.at;
+  within : All (IsWithin l.document) l.found.items;
+}
+
+abbrev pub decreases-loop-at : goal.decreases-loop-at
+decreases-loop-at l = length l.document - l.at

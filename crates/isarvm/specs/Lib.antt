@@ -1,0 +1,6 @@
+pub mod Byte
+pub mod Token
+pub mod Piece
+pub mod Place
+pub mod Reading
+pub mod Command

@@ -1,0 +1,125 @@
+ghost use Rattle.std.specs.Prelude.{◌≡◌, ◌≤◌, ◌<◌, ◌+◌, ◌&&◌, ◌∷◌, length, drop, position, codes, IfOk, IfErr, IfSome};
+ghost use Rattle.std.specs.List.{position_or_len, prefix_len, list_all};
+ghost use Rattle.std.specs.Option.{option_copied};
+ghost use Rattle.std.specs.Str.{bytes_eq};
+ghost use Rattle.iv_term.specs.declared.want.Want.TheVariants.{Memory};
+ghost use Rattle.isarvm.specs.Byte.{is_blank, is_word_byte};
+ghost use Rattle.isarvm.specs.Reading.{words_of, word_before, parts_of, parts_after, is_word, is_name, name_in, reading_of, unquoted};
+
+use crate::bytes::{is_blank, is_letter, is_word_byte, rest_from};
+use crate::parts::Parts;
+use iv_term::{Mem, Text};
+use std::alloc::Global;
+
+/// How many blanks stand before anything else.
+pub fn leading_blanks(text: &[u8]) -> usize
+    ensures count { result ≡ prefix_len is_blank text.now }
+    ensures within { result ≤ length text.now }
+{
+    text.iter().take_while(|byte| is_blank(**byte)).count()
+}
+
+/// How many bytes come before the first blank.
+pub fn before_blank(text: &[u8]) -> usize
+    ensures count { result ≡ position_or_len is_blank text.now }
+    ensures within { result ≤ length text.now }
+{
+    text.iter().take_while(|byte| !is_blank(**byte)).count()
+}
+
+/// The first word of a text, empty where it has none, and what stands behind it.
+pub fn next_word(text: &[u8]) -> (&[u8], &[u8])
+    ensures { words_of text.now ≡ word_before result.0.now (words_of result.1.now) }
+{
+    let text = rest_from(text, leading_blanks(text));
+    let len = before_blank(text);
+    text.split_at(len)
+}
+
+/// Whether all are bytes of words.
+pub fn are_word_bytes(text: &[u8]) -> bool
+    ensures { result ≡ list_all is_word_byte text.now }
+{
+    text.iter().all(|byte| is_word_byte(*byte))
+}
+
+/// Whether a text may name a proposition: a word other than `PROP`.
+pub fn is_name(text: &[u8]) -> bool
+    ensures { result ≡ is_name text.now }
+{
+    match text.first() {
+        None => false,
+        Some(first) => {
+            is_letter(*first) && are_word_bytes(rest_from(text, 1)) && text != b"PROP".as_slice()
+        }
+    }
+}
+
+/// The name in the part `PROP NAME`, or nothing where it is no such part.
+pub fn name_in(part: &[u8]) -> Option<&[u8]>
+    ensures { option_copied result ≡ name_in part.now }
+{
+    let (prop, rest) = next_word(part);
+    let (name, rest) = next_word(rest);
+    let (more, _) = next_word(rest);
+    if prop == b"PROP".as_slice() && is_name(name) && more.is_empty() {
+        Some(name)
+    } else {
+        None
+    }
+}
+
+/// The text before the first `==>`, and what stands behind that, if there is one.
+pub fn next_part(text: &[u8]) -> (&[u8], Option<&[u8]>)
+    ensures parts { parts_of text.now ≡ result.0.now ∷ parts_after (option_copied result.1) }
+    ensures shorter { IfSome result.1 (λ rest. length rest.now < length text.now) }
+{
+    for at in 0..text.len() {
+        let rest = rest_from(text, at);
+        if rest.starts_with(b"==>".as_slice()) {
+            return (&text[..at], Some(rest_from(rest, 3)));
+        }
+    }
+    (text, None)
+}
+
+/// The text of these bytes, each of which is a character. Fails where memory runs out.
+pub fn text_of(alloc: Global, bytes: &[u8]) -> Mem<Text>
+    ensures ok { IfOk result (λ t. t ≡ bytes.now) }
+    ensures memory { IfErr result (λ w. w ≡ Memory) }
+{
+    let mut chars = Vec::new(alloc);
+    for byte in bytes {
+        chars.push(char::from(*byte))?;
+    }
+    Text::from_vec(alloc, chars)
+}
+
+/// How a text reads: the names of its parts, in order, or nothing where it is no proposition.
+/// Fails where memory runs out.
+pub fn reading_of(alloc: Global, text: &[u8]) -> Mem<Option<Parts>>
+    ensures ok { IfOk result (λ parts. parts ≡ reading_of text.now) }
+    ensures memory { IfErr result (λ w. w ≡ Memory) }
+{
+    let mut names = Vec::new(alloc);
+    let mut left = Some(text);
+    while let Some(rest) = left {
+        let (part, after) = next_part(rest);
+        let Some(name) = name_in(part) else {
+            return Ok(None);
+        };
+        names.push(text_of(alloc, name)?)?;
+        left = after;
+    }
+    Ok(Some(Parts::from_vec(names)))
+}
+
+/// What stands between the quotes of a quoted text.
+pub fn unquoted(text: &[u8]) -> &[u8]
+    ensures { result.now ≡ unquoted text.now }
+{
+    match text {
+        [_, inner @ .., _] => inner,
+        _ => &[],
+    }
+}
