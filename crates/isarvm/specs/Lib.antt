@@ -4,3 +4,4 @@ pub mod Piece
 pub mod Place
 pub mod Reading
 pub mod Command
+pub mod Refusal

@@ -7,6 +7,7 @@ pub mod parts;
 pub mod pieces;
 pub mod places;
 pub mod reading;
+pub mod refusal;
 #[cfg(test)]
 mod tests;
 pub mod tokens;

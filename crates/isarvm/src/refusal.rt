@@ -1,0 +1,48 @@
+ghost use Rattle.std.specs.Prelude.{◌≡◌};
+
+use iv_term::{Text, Want};
+use iv_text::Pos;
+
+/// The mode of the machine, which decides which commands it takes.
+#[derive(Clone, Copy, Debug, PartialEq, Eq)]
+pub enum Mode {
+    /// Nothing was read yet.
+    Start,
+    /// Outside of proofs.
+    Theory,
+    /// Inside a proof.
+    Prove,
+    /// Behind `end`.
+    Ended,
+}
+
+/// Why a command was refused.
+#[derive(Drop)]
+pub enum Refusal {
+    /// No form reads it; its place.
+    Syntax(Pos),
+    /// The machine takes no such command in this mode.
+    Mode(Mode),
+    /// It declares this name, which is there.
+    Name(Text),
+    /// No premise is the conclusion.
+    Empty,
+    /// Memory ran out.
+    Memory,
+    /// A number of 4,294,967,295 or more was to be made.
+    Number,
+}
+
+impl From<Want> for Refusal {
+    ghost use Rattle.std.specs.Prelude.{◌≡◌};
+    ghost use Rattle.isarvm.specs.Refusal.{refusal_for};
+
+    ghost from_gives = { λ w r. r ≡ refusal_for w };
+
+    fn from(want: Want) -> Refusal {
+        match want {
+            Want::Memory => Refusal::Memory,
+            Want::Number => Refusal::Number,
+        }
+    }
+}
