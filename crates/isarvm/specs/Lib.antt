@@ -5,3 +5,6 @@ pub mod Place
 pub mod Reading
 pub mod Command
 pub mod Refusal
+pub mod Statement
+pub mod Machine
+pub mod Names

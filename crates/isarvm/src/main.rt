@@ -3,11 +3,13 @@
 
 pub mod bytes;
 pub mod commands;
+pub mod names;
 pub mod parts;
 pub mod pieces;
 pub mod places;
 pub mod reading;
 pub mod refusal;
+pub mod statement;
 #[cfg(test)]
 mod tests;
 pub mod tokens;

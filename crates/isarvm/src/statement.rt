@@ -1,0 +1,67 @@
+ghost use Rattle.std.specs.Prelude.{◌≡◌, ◌<◌, length, IfOk, IfErr};
+ghost use Rattle.iv_term.specs.Term.{IsProposition};
+ghost use Rattle.iv_term.specs.declared.want.Want.TheVariants.{Memory};
+ghost use Rattle.isarvm.specs.Statement.{name_of, free_var, schematic_var, statement_of, is_solved};
+
+use iv_term::{Head, Mem, Name, Term, Terms, Text, Typ};
+use std::alloc::Global;
+
+/// The name of a text, with the number 0. Fails where a count of owners is full.
+pub fn name_of(text: &Text) -> Mem<Name>
+    ensures ok { IfOk result (λ n. n ≡ name_of text.now) }
+    ensures memory { IfErr result (λ w. w ≡ Memory) }
+{
+    Ok(Name {
+        text: text.copy()?,
+        number: 0,
+    })
+}
+
+/// The free variable of type `prop` with this text. Fails where memory runs out.
+pub fn free_var(alloc: Global, text: &Text) -> Mem<Term>
+    ensures ok { IfOk result (λ t. t ≡ free_var text.now) }
+    ensures memory { IfErr result (λ w. w ≡ Memory) }
+{
+    let head = Head::Free(name_of(text)?, Typ::prop(alloc)?);
+    Ok(Term::Spine(head, Terms::Nil))
+}
+
+/// The schematic variable of type `prop` with this text. Fails where memory runs out.
+pub fn schematic_var(alloc: Global, text: &Text) -> Mem<Term>
+    ensures ok { IfOk result (λ t. t ≡ schematic_var text.now) }
+    ensures memory { IfErr result (λ w. w ≡ Memory) }
+{
+    let head = Head::Schematic(name_of(text)?, Typ::prop(alloc)?);
+    Ok(Term::Spine(head, Terms::Nil))
+}
+
+/// The statement with these parts, over free variables. Fails where memory runs out.
+pub fn statement(alloc: Global, parts: &[Text]) -> Mem<Term>
+    requires { 0 < length parts.now }
+    ensures ok { IfOk result (λ t. t ≡ statement_of free_var parts.now) }
+    ensures memory { IfErr result (λ w. w ≡ Memory) }
+{
+    let mut at = parts.len() - 1;
+    let mut built = free_var(alloc, &parts[at])?;
+    'parts: while at > 0 {
+        at -= 1;
+        let premise = free_var(alloc, &parts[at])?;
+        built = Term::imp(alloc, &premise, &built)?;
+    }
+    Ok(built)
+}
+
+/// Whether one of the premises is the conclusion, the last part. Takes no memory.
+pub fn is_solved(parts: &[Text]) -> bool
+    ensures { result ≡ is_solved parts.now }
+{
+    let Some((conclusion, premises)) = parts.split_last() else {
+        return false;
+    };
+    'premises: for premise in premises {
+        if premise.is(conclusion) {
+            return true;
+        }
+    }
+    false
+}
