@@ -1,3 +1,4 @@
+pub mod CommandSteps
 pub mod PieceSteps
 pub mod TokenSteps
 pub mod PartSteps

@@ -5,6 +5,7 @@ use Rattle.std.proofs.lemmas.List.Sums.{prefix_len-le-length}
 use Rattle.std.proofs.lemmas.List.{drop-drop, map-append}
 use Rattle.std.proofs.lemmas.List.Concat.{flat_map-append}
 use Rattle.std.proofs.Math.Seq.{take-add}
+use Rattle.std.proofs.lemmas.List.Elements.{All-push}
 use Rattle.std.proofs.lemmas.Grind.{common_steps}
 use Rattle.std.specs.List.{All, flat_map, position_or_len, onto_first}
 use Rattle.isarvm.specs.declared.tokens.Token.{Token}
@@ -64,3 +65,8 @@ runs_more tokens first n found l fits before =
 pub joined_more : (tokens : List Token) (first n : ℕ) (found : List Piece) → flat_map (run_of tokens) found ≡ take first tokens → flat_map (run_of tokens) (found ++ record { first = first; count = 1 + n } ∷ []) ≡ take (first + (1 + n)) tokens
 joined_more tokens first n found before =
     rw (flat_map-append, before, append-nil, take-add first (1 + n) tokens) refl
+
+-- what was cut has ended, with a run more
+pub ended_more : (first n : ℕ) (found : List Piece) → All (λ p. p.first + p.count ≤ first) found → All (λ p. p.first + p.count ≤ first + (1 + n)) (found ++ record { first = first; count = 1 + n } ∷ [])
+ended_more first n found before =
+    All-push (λ p. p.first + p.count ≤ first + (1 + n)) found (record { first = first; count = 1 + n }) (λ k d l. omega (arith, before k d l)) (omega arith)

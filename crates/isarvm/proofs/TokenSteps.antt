@@ -1,7 +1,7 @@
 -- Steps of the reading of tokens.
 use Rattle.std.proofs.Common.{◌≡◌, ℕ, ◌+◌, ◌<◌, ◌≤◌, suc, zero, List, [], ◌∷◌, ◌++◌, length, get_or, take, drop, refl, ap, sym, ◌∙◌, arith, drop-cons, add-one, length-drop, add-zero, append_assoc}
 use Rattle.std.proofs.lemmas.List.{drop-drop, append-nil}
-use Rattle.std.proofs.lemmas.List.Elements.{filter-append}
+use Rattle.std.proofs.lemmas.List.Elements.{filter-append, All-push}
 use Rattle.std.proofs.lemmas.List.Concat.{flat_map-append}
 use Rattle.std.proofs.Math.Seq.{take-add, take-suc}
 use Rattle.std.proofs.lemmas.Bool.Decides.{nat_tests}
@@ -86,3 +86,8 @@ kept_blank d at m found l e mark before =
     let nothing : m ≡ 0 = e ∙ blank_alone b (drop (at + 1) d) blank in
     let next : at + 1 + m ≡ suc at = omega (arith, nothing) in
     rw (next, take-suc d at 0, filter-append, blank, append-nil) before
+
+-- what was found has ended, with a token more
+pub ended_more : (at m : ℕ) (found : List Token) (kind : Kind) → All (λ t. t.end.0 ≤ at) found → All (λ t. t.end.0 ≤ at + 1 + m) (found ++ token_from at (at + 1 + m) kind ∷ [])
+ended_more at m found kind before =
+    All-push (λ t. t.end.0 ≤ at + 1 + m) found (token_from at (at + 1 + m) kind) (λ k d l. omega (arith, before k d l)) (omega arith)

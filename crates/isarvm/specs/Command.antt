@@ -1,5 +1,5 @@
 -- The commands of a document. Of this project.
-use Rattle.std.specs.Prelude.{ℕ, List, [], ◌∷◌, map, if◌then◌else◌, codes, Option, Some, None}
+use Rattle.std.specs.Prelude.{◌≤◌, length, ℕ, List, [], ◌∷◌, map, if◌then◌else◌, codes, Option, Some, None}
 use Rattle.std.specs.Str.{bytes_eq}
 use Rattle.isarvm.specs.declared.tokens.Kind.{Kind}
 use Rattle.isarvm.specs.declared.tokens.Kind.TheVariants as kind
@@ -54,3 +54,11 @@ command_of document (t ∷ ts) =
 -- the commands of a document
 abbrev pub commands_of : List ℕ → List Command
 commands_of document = map (command_of document) (pieces_of document (tokens_of document))
+
+-- a command begins no later than another
+abbrev pub IsNoLater : Command → Command → Type 0
+IsNoLater a b = a.at.0 ≤ b.at.0
+
+-- a command begins in the document
+abbrev pub BeginsIn : List ℕ → Command → Type 0
+BeginsIn document c = c.at.0 ≤ length document

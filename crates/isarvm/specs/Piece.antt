@@ -48,6 +48,10 @@ pieces_of document (t ∷ ts) =
 abbrev pub run_of : List Token → Piece → List Token
 run_of tokens p = take p.count (drop p.first tokens)
 
+-- a run ends before another begins
+abbrev pub IsRunBefore : Piece → Piece → Type 0
+IsRunBefore p q = p.first + p.count ≤ q.first
+
 -- a run is not empty, and lies in the list
 pub record IsRun (tokens : List Token) (p : Piece) : Type 0 where
   pub nonempty : 0 < p.count

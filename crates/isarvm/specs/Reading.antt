@@ -45,10 +45,8 @@ is_name text = is_word text && not (bytes_eq text (codes "PROP"))
 
 -- the name in the words `PROP NAME`
 abbrev pub name_in_words : List (List ℕ) → Option (List ℕ)
-name_in_words [] = None
-name_in_words (prop ∷ []) = None
 name_in_words (prop ∷ name ∷ []) = if (bytes_eq prop (codes "PROP") && is_name name) then Some name else None
-name_in_words (prop ∷ name ∷ more ∷ rest) = None
+name_in_words _ = None
 
 -- the name in the part `PROP NAME`
 abbrev pub name_in : List ℕ → Option (List ℕ)

@@ -39,6 +39,10 @@ tokens_of document = tokens_from 0 0 document
 abbrev pub spelt : List ℕ → Token → List ℕ
 spelt document t = take (t.end.0 - t.at.0) (drop t.at.0 document)
 
+-- a token ends before another begins
+abbrev pub IsBefore : Token → Token → Type 0
+IsBefore t u = t.end.0 ≤ u.at.0
+
 -- a token's offsets are in order, and in the document
 pub record IsWithin (document : List ℕ) (t : Token) : Type 0 where
   pub ordered : t.at.0 ≤ t.end.0

@@ -1,9 +1,9 @@
 ghost use Rattle.std.specs.Prelude.{◌≡◌, ◌≤◌, ◌<◌, length, map, IfOk, IfErr};
-ghost use Rattle.std.specs.List.{All};
+ghost use Rattle.std.specs.List.{All, AllPairs};
 ghost use Rattle.iv_term.specs.declared.want.Want.TheVariants.{Memory};
-ghost use Rattle.isarvm.specs.Token.{IsWithin};
-ghost use Rattle.isarvm.specs.Piece.{run_of, IsRun};
-ghost use Rattle.isarvm.specs.Command.{lexeme, lemma_form, after_lemma, after_by, form_after, command_of, commands_of};
+ghost use Rattle.isarvm.specs.Token.{IsBefore, IsWithin};
+ghost use Rattle.isarvm.specs.Piece.{run_of, IsRunBefore, IsRun};
+ghost use Rattle.isarvm.specs.Command.{lexeme, lemma_form, after_lemma, after_by, form_after, command_of, commands_of, IsNoLater, BeginsIn};
 
 use crate::bytes::rest_from;
 use crate::parts::Parts;
@@ -122,8 +122,12 @@ pub fn commands_in(
     pieces: &[Piece],
 ) -> Mem<Vec<Command>>
     requires within { All (IsWithin document.now) tokens.now }
+    requires before { AllPairs IsBefore tokens.now }
     requires runs { All (IsRun tokens.now) pieces.now }
+    requires ordered { AllPairs IsRunBefore pieces.now }
     ensures ok { IfOk result (λ v. v.items ≡ map (command_of document.now) (map (run_of tokens.now) pieces.now)) }
+    ensures ordered { IfOk result (λ v. AllPairs IsNoLater v.items) }
+    ensures inside { IfOk result (λ v. All (BeginsIn document.now) v.items) }
     ensures memory { IfErr result (λ w. w ≡ Memory) }
 {
     let mut found = Vec::new(alloc);
@@ -138,6 +142,8 @@ pub fn commands_in(
 pub fn commands(alloc: Global, document: &[u8]) -> Mem<Vec<Command>>
     requires small { length document.now ≤ LIMIT }
     ensures ok { IfOk result (λ v. v.items ≡ commands_of document.now) }
+    ensures ordered { IfOk result (λ v. AllPairs IsNoLater v.items) }
+    ensures inside { IfOk result (λ v. All (BeginsIn document.now) v.items) }
     ensures memory { IfErr result (λ w. w ≡ Memory) }
 {
     let all = tokens(alloc, document)?;

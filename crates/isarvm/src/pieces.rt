@@ -1,8 +1,8 @@
 ghost use Rattle.std.specs.Prelude.{◌≡◌, ◌≤◌, ◌<◌, ◌+◌, length, map, position, IfOk, IfErr};
-ghost use Rattle.std.specs.List.{All, flat_map, position_or_len};
+ghost use Rattle.std.specs.List.{All, AllPairs, flat_map, position_or_len};
 ghost use Rattle.iv_term.specs.declared.want.Want.TheVariants.{Memory};
 ghost use Rattle.isarvm.specs.Token.{IsWithin};
-ghost use Rattle.isarvm.specs.Piece.{word_spelt, word_of, is_command, begins, pieces_of, run_of, IsRun};
+ghost use Rattle.isarvm.specs.Piece.{word_spelt, word_of, is_command, begins, pieces_of, run_of, IsRunBefore, IsRun};
 
 use crate::bytes::rest_from;
 use crate::tokens::{Kind, LIMIT, Token, spelt};
@@ -110,6 +110,7 @@ pub fn split(alloc: Global, document: &[u8], tokens: &[Token]) -> Mem<Vec<Piece>
     requires within { All (IsWithin document.now) tokens.now }
     ensures ok { IfOk result (λ v. map (run_of tokens.now) v.items ≡ pieces_of document.now tokens.now) }
     ensures joined { IfOk result (λ v. flat_map (run_of tokens.now) v.items ≡ tokens.now) }
+    ensures ordered { IfOk result (λ v. AllPairs IsRunBefore v.items) }
     ensures runs { IfOk result (λ v. All (IsRun tokens.now) v.items) }
     ensures memory { IfErr result (λ w. w ≡ Memory) }
 {

@@ -1,7 +1,7 @@
 ghost use Rattle.std.specs.Prelude.{◌≡◌, ◌≤◌, ◌+◌, length, drop, position, take_while, IfOk, IfErr};
-ghost use Rattle.std.specs.List.{All, flat_map};
+ghost use Rattle.std.specs.List.{All, AllPairs, flat_map};
 ghost use Rattle.iv_term.specs.declared.want.Want.TheVariants.{Memory};
-ghost use Rattle.isarvm.specs.Token.{begun_by, kind_at, more_at, spelt, tokens_of, IsWithin};
+ghost use Rattle.isarvm.specs.Token.{begun_by, kind_at, more_at, spelt, tokens_of, IsBefore, IsWithin};
 ghost use Rattle.isarvm.specs.Byte.{is_quote, is_word_byte, visible};
 
 use crate::bytes::{is_blank, is_letter, is_word_byte, rest_from};
@@ -104,6 +104,7 @@ pub fn tokens(alloc: Global, document: &[u8]) -> Mem<Vec<Token>>
     requires small { length document.now ≤ LIMIT }
     ensures ok { IfOk result (λ v. v.items ≡ tokens_of document.now) }
     ensures kept { IfOk result (λ v. visible (flat_map (spelt document.now) v.items) ≡ visible document.now) }
+    ensures ordered { IfOk result (λ v. AllPairs IsBefore v.items) }
     ensures few { IfOk result (λ v. length v.items ≤ length document.now) }
     ensures within { IfOk result (λ v. All (IsWithin document.now) v.items) }
     ensures memory { IfErr result (λ w. w ≡ Memory) }

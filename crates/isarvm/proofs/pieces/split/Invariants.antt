@@ -1,6 +1,6 @@
-use Rattle.std.proofs.Common.{◌≡◌, ◌≤◌, ◌-◌, ◌++◌, length, drop, take, map}
-use Rattle.std.specs.List.{All, flat_map}
-use Rattle.isarvm.specs.Piece.{pieces_of, run_of, IsRun}
+use Rattle.std.proofs.Common.{◌≡◌, ◌≤◌, ◌+◌, ◌-◌, ◌++◌, length, drop, take, map}
+use Rattle.std.specs.List.{All, AllPairs, flat_map}
+use Rattle.isarvm.specs.Piece.{pieces_of, run_of, IsRunBefore, IsRun}
 use Rattle.isarvm.proofs.pieces.split.Given as goal
 
 abbrev pub invariant-loop-first : goal.invariant-loop-first
@@ -8,6 +8,8 @@ invariant-loop-first l = record {
   inside : l.first ≤ length l.tokens;
   so_far : map (run_of l.tokens) l.found.items ++ pieces_of l.document (drop l.first l.tokens) ≡ pieces_of l.document l.tokens;
   joined : flat_map (run_of l.tokens) l.found.items ≡ take l.first l.tokens;
+  ordered : AllPairs IsRunBefore l.found.items;
+  ended : All (λ p. p.first + p.count ≤ l.first) l.found.items;
   runs : All (IsRun l.tokens) l.found.items;
 }
 
