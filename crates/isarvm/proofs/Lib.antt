@@ -3,3 +3,7 @@ pub mod PieceSteps
 pub mod TokenSteps
 pub mod PartSteps
 pub mod WordSteps
+pub mod NameSteps
+pub mod StatementSteps
+pub mod Generalising
+pub mod ClaimSteps

@@ -8,3 +8,5 @@ pub mod Refusal
 pub mod Statement
 pub mod Machine
 pub mod Names
+pub mod Open
+pub mod Sound

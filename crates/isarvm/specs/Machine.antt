@@ -1,5 +1,5 @@
 -- The machine and its transition table, for `lemma`, `by assumption`, `oops` and `end` (Wenzel 2002).
-use Rattle.std.specs.Prelude.{◌≡◌, ℕ, Bool, List, [], ◌∷◌, ◌++◌, if◌then◌else◌}
+use Rattle.std.specs.Prelude.{◌≡◌, ℕ, Bool, false, Option, Some, None, List, [], ◌∷◌, ◌++◌, if◌then◌else◌}
 use Rattle.std.specs.List.{list_any}
 use Rattle.std.specs.Str.{bytes_eq}
 use Rattle.iv_term.specs.declared.term.Term.{Term}
@@ -13,9 +13,9 @@ use Rattle.isarvm.specs.declared.refusal.Refusal.TheVariants.{Syntax, Mode as Wr
 use Rattle.isarvm.specs.Statement.{statement_of, schematic_var, is_solved}
 use Rattle.iv_text.specs.declared.Pos.{Pos}
 
--- a finished theorem: its name and its proposition
+-- a finished theorem: its name, where it has one, and its proposition
 pub record Finished : Type 0 where
-  pub name : List ℕ
+  pub name : Option (List ℕ)
   pub prop : Term
 
 -- where a document stands: at its start, outside of proofs, in the proof of a statement under its name, or behind its end
@@ -40,9 +40,14 @@ mode_of Ended = mode.Ended
 abbrev pub start : Machine
 start = record { stage = Start; finished = [] }
 
--- a finished theorem has this name
+-- whether a name is this one
+abbrev pub is_named : List ℕ → Option (List ℕ) → Bool
+is_named name None = false
+is_named name (Some other) = bytes_eq name other
+
+-- whether a finished theorem has this name
 abbrev pub is_taken : List Finished → List ℕ → Bool
-is_taken finished name = list_any (λ f. bytes_eq name f.name) finished
+is_taken finished name = list_any (λ f. is_named name f.name) finished
 
 -- what a command does: it is refused with its cause, or accepted with the new state
 pub data Outcome : Type 0 where
@@ -55,7 +60,7 @@ wrong_mode s = Refused (WrongMode (mode_of s))
 
 -- the theorem of a proved statement: its free variables have become schematic
 abbrev pub theorem_of : List ℕ → List (List ℕ) → Finished
-theorem_of name parts = record { name = name; prop = statement_of schematic_var parts }
+theorem_of name parts = record { name = Some name; prop = statement_of schematic_var parts }
 
 -- the rows of the table, one a command
 abbrev pub lemma_row : List ℕ → List (List ℕ) → List Finished → Outcome

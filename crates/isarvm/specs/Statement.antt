@@ -1,12 +1,16 @@
 -- Statements as terms, and when a premise is the conclusion. Of this project.
-use Rattle.std.specs.Prelude.{◌≡◌, ℕ, Bool, true, false, ◌||◌, List, [], ◌∷◌}
+use Rattle.std.specs.Prelude.{◌≡◌, ℕ, Bool, true, false, ◌||◌, List, [], ◌∷◌, is_none, if◌then◌else◌}
+use Rattle.std.specs.List.{list_any}
 use Rattle.std.specs.Str.{bytes_eq}
 use Rattle.iv_term.specs.declared.name.Name.{Name}
 use Rattle.iv_term.specs.declared.term.Term.{Term}
 use Rattle.iv_term.specs.declared.term.Head.TheVariants.{Free, Schematic}
 use Rattle.iv_term.specs.declared.term.Term.TheBlock.{Spine, Nil}
+use Rattle.iv_term.specs.declared.term.Terms.{Terms}
+use Rattle.iv_term.specs.declared.instance.VarTerms.{VarTerms}
 use Rattle.iv_term.specs.Typ.{prop}
-use Rattle.iv_term.specs.Term.{imp}
+use Rattle.iv_term.specs.Term.{imp, tm_cons}
+use Rattle.iv_term.specs.Instance.{entry, value_at}
 
 -- the name of this text, with the number 0
 abbrev pub name_of : List ℕ → Name
@@ -19,19 +23,32 @@ free_var text = Spine (Free (name_of text) prop) Nil
 abbrev pub schematic_var : List ℕ → Term
 schematic_var text = Spine (Schematic (name_of text) prop) Nil
 
--- the last of some texts, p where there is one more before them
-abbrev pub last_of : List ℕ → List (List ℕ) → List ℕ
-last_of p [] = p
-last_of p (q ∷ qs) = last_of q qs
-
--- P1 ==> .. ==> Pn, for variables of these texts; there is always one
+-- P1 ==> .. ==> Pn, for variables of these texts, of which there is always one
 unfoldable pub statement_of : (List ℕ → Term) → List (List ℕ) → Term
 statement_of var [] = var []
 statement_of var (p ∷ []) = var p
 statement_of var (p ∷ q ∷ qs) = imp (var p) (statement_of var (q ∷ qs))
 
--- whether one of the premises is the conclusion, the last part
+-- the conclusion, the last part; p where no part is behind it
+unfoldable pub last_of : List ℕ → List (List ℕ) → List ℕ
+last_of p [] = p
+last_of p (q ∷ qs) = last_of q qs
+
+-- whether one of the premises is the conclusion
 unfoldable pub is_solved : List (List ℕ) → Bool
 is_solved [] = false
 is_solved (p ∷ []) = false
 is_solved (p ∷ q ∷ qs) = bytes_eq p (last_of q qs) || is_solved (q ∷ qs)
+
+-- what is put for the free variable of a text: its schematic one, unless something is put for it already
+unfoldable pub with_entry : List ℕ → VarTerms → VarTerms
+with_entry p s = if is_none (value_at s (name_of p) prop) then entry (name_of p) prop (schematic_var p) s else s
+
+-- the same for each of some texts
+unfoldable pub with_entries : List (List ℕ) → VarTerms → VarTerms
+with_entries [] s = s
+with_entries (p ∷ ps) s = with_entries ps (with_entry p s)
+
+-- the hypotheses of a statement that is proved from its conclusion: none where a premise is the conclusion
+unfoldable pub open_hyps : List (List ℕ) → List ℕ → Terms
+open_hyps ps c = if list_any (λ p. bytes_eq p c) ps then Nil else tm_cons (free_var c) Nil

@@ -2,11 +2,14 @@
 #![tactic(auto)]
 
 pub mod bytes;
+pub mod claim;
 pub mod commands;
+pub mod machine;
 pub mod names;
 pub mod parts;
 pub mod pieces;
 pub mod places;
+pub mod prove;
 pub mod reading;
 pub mod refusal;
 pub mod statement;

@@ -111,7 +111,7 @@ pub fn reading_of(alloc: Global, text: &[u8]) -> Mem<Option<Parts>>
         names.push(text_of(alloc, name)?)?;
         left = after;
     }
-    Ok(Some(Parts::from_vec(names)))
+    Ok(Some(Parts::from_vec(alloc, names)?))
 }
 
 /// What stands between the quotes of a quoted text.

@@ -1,5 +1,6 @@
-ghost use Rattle.std.specs.Prelude.{◌≡◌, ◌<◌, length, IfOk, IfErr};
-ghost use Rattle.iv_term.specs.Term.{IsProposition};
+ghost use Rattle.std.specs.Prelude.{◌≡◌, ◌<◌, [], ◌∷◌, ◌++◌, length, IfOk, IfErr};
+ghost use Rattle.std.specs.List.{list_any};
+ghost use Rattle.std.specs.Str.{bytes_eq};
 ghost use Rattle.iv_term.specs.declared.want.Want.TheVariants.{Memory};
 ghost use Rattle.isarvm.specs.Statement.{name_of, free_var, schematic_var, statement_of, is_solved};
 
@@ -35,33 +36,24 @@ pub fn schematic_var(alloc: Global, text: &Text) -> Mem<Term>
     Ok(Term::Spine(head, Terms::Nil))
 }
 
-/// The statement with these parts, over free variables. Fails where memory runs out.
-pub fn statement(alloc: Global, parts: &[Text]) -> Mem<Term>
-    requires { 0 < length parts.now }
-    ensures ok { IfOk result (λ t. t ≡ statement_of free_var parts.now) }
+/// The statement with these premises and this conclusion, over free variables. Fails where memory runs out.
+pub fn statement(alloc: Global, premises: &[Text], conclusion: &Text) -> Mem<Term>
+    ensures ok { IfOk result (λ t. t ≡ statement_of free_var (premises.now ++ conclusion.now ∷ [])) }
     ensures memory { IfErr result (λ w. w ≡ Memory) }
 {
-    let mut at = parts.len() - 1;
-    let mut built = free_var(alloc, &parts[at])?;
-    'parts: while at > 0 {
+    let mut built = free_var(alloc, conclusion)?;
+    let mut at = premises.len();
+    'premises: while at > 0 {
         at -= 1;
-        let premise = free_var(alloc, &parts[at])?;
+        let premise = free_var(alloc, &premises[at])?;
         built = Term::imp(alloc, &premise, &built)?;
     }
     Ok(built)
 }
 
-/// Whether one of the premises is the conclusion, the last part. Takes no memory.
-pub fn is_solved(parts: &[Text]) -> bool
-    ensures { result ≡ is_solved parts.now }
+/// Whether one of the premises is the conclusion. Takes no memory.
+pub fn is_solved(premises: &[Text], conclusion: &Text) -> bool
+    ensures { result ≡ list_any (λ p. bytes_eq p conclusion.now) premises.now }
 {
-    let Some((conclusion, premises)) = parts.split_last() else {
-        return false;
-    };
-    'premises: for premise in premises {
-        if premise.is(conclusion) {
-            return true;
-        }
-    }
-    false
+    premises.iter().any(|premise| premise.is(conclusion))
 }

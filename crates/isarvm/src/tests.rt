@@ -30,10 +30,13 @@ fn push_form(out: &mut String, form: &Form) -> Result<(), Fail> {
     match form {
         Form::Lemma(name, parts) => {
             push_text(out, name)?;
-            for part in parts.as_slice() {
+            let (premises, conclusion) = parts.split();
+            for premise in premises {
                 out.push(' ')?;
-                push_text(out, part)?;
+                push_text(out, premise)?;
             }
+            out.push(' ')?;
+            push_text(out, conclusion)?;
         }
         Form::ByAssumption => out.push_str("assumption")?,
         Form::Oops => out.push_str("oops")?,

@@ -1,4 +1,4 @@
-ghost use Rattle.std.specs.Prelude.{◌≡◌, [], ◌∷◌, ◌++◌, length, IfOk, IfErr, OnOk, OnErr};
+ghost use Rattle.std.specs.Prelude.{◌≡◌, [], ◌∷◌, ◌++◌, length, IfOk, IfErr, OnOk, OnErr, MatchOption};
 ghost use Rattle.iv_term.specs.declared.want.Want.TheVariants.{Memory};
 
 use crate::thm::Thm;
@@ -64,6 +64,13 @@ impl Theorems {
     {
         self.items.push(named)?;
         Ok(())
+    }
+
+    /// Takes the last one away, where there is one.
+    pub fn pop(&mut self) -> Option<NamedThm>
+        ensures { MatchOption result ((self.old ≡ []) × (self.new ≡ [])) (λ last. self.old ≡ self.new ++ last ∷ []) }
+    {
+        self.items.pop()
     }
 
     /// Puts others at the end, in order. Fails where memory runs out, and the list is then as before.

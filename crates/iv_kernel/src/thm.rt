@@ -91,6 +91,7 @@ impl Thm {
         ensures hyps { IfOk result (λ t. t.hyps ≡ tm_cons prop.now Nil) }
         ensures prop { IfOk result (λ t. t.prop ≡ prop.now) }
         ensures derivation { IfOk result (λ t. t.derivation ≡ Assume prop.now) }
+        ensures kept { IfOk result (λ t. Kept t) }
         ensures memory { IfErr result (λ w. w ≡ Memory) }
     {
         let hyps = Terms::only(alloc, prop)?;
@@ -116,6 +117,7 @@ impl Thm {
         ensures hyps { IfOk result (λ r. r.hyps ≡ without prop.now t.now.hyps) }
         ensures prop { IfOk result (λ r. r.prop ≡ imp prop.now t.now.prop) }
         ensures derivation { IfOk result (λ r. r.derivation ≡ imp_intr prop.now t.now.derivation) }
+        ensures kept { IfOk result (λ r. Kept r) }
         ensures memory { IfErr result (λ w. w ≡ Memory) }
     {
         let hyps = t.hyps.without(alloc, prop)?;
@@ -141,6 +143,7 @@ impl Thm {
         ensures hyps { IfOk result (λ r. r.hyps ≡ union major.now.hyps minor.now.hyps) }
         ensures prop { IfOk result (λ r. r.prop ≡ consequent major.now.prop) }
         ensures derivation { IfOk result (λ r. r.derivation ≡ imp_elim major.now.derivation minor.now.derivation) }
+        ensures kept { IfOk result (λ r. Kept r) }
         ensures memory { IfErr result (λ w. w ≡ Memory) }
     {
         let hyps = major.hyps.union(alloc, &minor.hyps)?;
@@ -167,6 +170,7 @@ impl Thm {
         ensures hyps { IfOk result (λ r. r.hyps ≡ put_hyps s.now t.now.hyps) }
         ensures prop { IfOk result (λ r. r.prop ≡ put_term s.now t.now.prop) }
         ensures derivation { IfOk result (λ r. r.derivation ≡ inst s.now t.now.derivation) }
+        ensures kept { IfOk result (λ r. Kept r) }
         ensures memory { IfErr result (λ w. w ≡ Memory) }
     {
         let hyps = t.hyps.put_hyps(alloc, s)?;

@@ -1,9 +1,12 @@
-use Rattle.std.proofs.Common.{◌≡◌, ◌<◌, length, drop}
+use Rattle.std.proofs.Common.{◌≡◌, ◌≤◌, ◌++◌, ◌∷◌, [], length, drop}
 use Rattle.isarvm.specs.Statement.{free_var, statement_of}
 use Rattle.isarvm.proofs.statement.statement.Given as goal
 
-abbrev pub invariant-parts : goal.invariant-parts
-invariant-parts l = record { within : l.at < length l.parts; built : l.built ≡ statement_of free_var (drop l.at l.parts) }
+abbrev pub invariant-premises : goal.invariant-premises
+invariant-premises l = record {
+  within : l.at ≤ length l.premises;
+  built : l.built ≡ statement_of free_var (drop l.at l.premises ++ l.conclusion ∷ []);
+}
 
-abbrev pub decreases-parts : goal.decreases-parts
-decreases-parts l = l.at
+abbrev pub decreases-premises : goal.decreases-premises
+decreases-premises l = l.at

@@ -7,3 +7,8 @@ pub invariant_of-result : goal.invariant_of-result
 invariant_of-result c =
     let e : c.in_ok-derivation.derivation ≡ Assume c.args.prop.now = rw (c.in_ok-derivation.ensures, c.in_ok-copy.ensures.ok) in
     assume-concludes c.args.prop.now _ _ _ c.requires e c.in_ok-hyps.ensures.ok c.in_ok-prop.ensures.ok
+
+pub returns-clause-kept : goal.returns-clause-kept
+returns-clause-kept c =
+    let e : c.in_ok-derivation.derivation ≡ Assume c.args.prop.now = rw (c.in_ok-derivation.ensures, c.in_ok-copy.ensures.ok) in
+    assume-concludes c.args.prop.now _ _ _ c.requires e c.in_ok-hyps.ensures.ok c.in_ok-prop.ensures.ok

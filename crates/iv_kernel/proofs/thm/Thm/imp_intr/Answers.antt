@@ -14,3 +14,9 @@ returns-clause-derivation c =
     let e : c.in_ok-derivation.derivation ≡ imp_intr c.args.prop.now c.t.inside.derivation =
     rw (c.in_ok-derivation.ensures, c.in_ok-copy.ensures.ok, c.in_ok-share.ensures) (imp_intr_is _ _) in
     e ∙ ap (λ d. imp_intr c.args.prop.now d) (ap (λ p. p.derivation) c.t.view_is)
+
+pub returns-clause-kept : goal.returns-clause-kept
+returns-clause-kept c =
+    let e : c.in_ok-derivation.derivation ≡ imp_intr c.args.prop.now c.t.inside.derivation =
+    rw (c.in_ok-derivation.ensures, c.in_ok-copy.ensures.ok, c.in_ok-share.ensures) (imp_intr_is _ _) in
+    imp_intr-concludes c.args.prop.now _ _ _ c.requires c.t.invariant _ _ _ e c.in_ok-hyps.ensures.ok c.in_ok-prop.ensures.ok

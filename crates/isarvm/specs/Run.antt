@@ -1,0 +1,56 @@
+-- The run of a document and its report. Of this project.
+use Rattle.std.specs.Prelude.{◌≡◌, ℕ, zero, suc, ◌+◌, Bool, true, false, ◌&&◌, List, [], ◌∷◌, ◌++◌, Some, length, drop, encode_utf8_all, if◌then◌else◌}
+use Rattle.std.specs.List.{flat_map}
+use Rattle.isarvm.specs.declared.commands.Command.{Command}
+use Rattle.isarvm.specs.Command.{commands_of}
+use Rattle.isarvm.specs.Place.{line_of, column_of}
+use Rattle.isarvm.specs.Machine.{Finished, Machine, Stage, Ended, Outcome, Refused, Accepted, start, executed, next}
+use Rattle.isarvm.specs.Report.{theorem_line, refusal_line}
+
+-- the line of a finished theorem
+abbrev pub line_of_finished : Finished → List ℕ
+line_of_finished f = theorem_line f.name f.prop
+
+-- what is reported of a command: the theorems that it finished, or why it was refused
+abbrev pub lines_of : List ℕ → Command → Machine → Outcome → List ℕ
+lines_of document c m (Refused r) = refusal_line (line_of document c.at.0) (column_of document c.at.0) c.word r
+lines_of document c m (Accepted n) = flat_map line_of_finished (drop (length m.finished) n.finished)
+
+-- what is reported of some commands, executed in order
+unfoldable pub report_from : List ℕ → Machine → List Command → List ℕ
+report_from document m [] = []
+report_from document m (c ∷ cs) = lines_of document c m (executed c m) ++ report_from document (next c m) cs
+
+-- the state behind them
+unfoldable pub state_behind : Machine → List Command → Machine
+state_behind m [] = m
+state_behind m (c ∷ cs) = state_behind (next c m) cs
+
+-- whether none of them is refused
+abbrev pub is_accepted : Outcome → Bool
+is_accepted (Refused r) = false
+is_accepted (Accepted n) = true
+
+unfoldable pub all_accepted : Machine → List Command → Bool
+all_accepted m [] = true
+all_accepted m (c ∷ cs) = is_accepted (executed c m) && all_accepted (next c m) cs
+
+abbrev pub is_ended : Stage → Bool
+is_ended Ended = true
+is_ended s = false
+
+-- the report of a document, as bytes
+abbrev pub report_of : List ℕ → List ℕ
+report_of document = encode_utf8_all (report_from document start (commands_of document))
+
+-- the theorems that a document proves, in order
+abbrev pub theorems_of : List ℕ → List Finished
+theorems_of document = (state_behind start (commands_of document)).finished
+
+-- whether a document is accepted: no command is refused, and the last one is `end`
+abbrev pub is_done : List ℕ → Bool
+is_done document = all_accepted start (commands_of document) && is_ended (state_behind start (commands_of document)).stage
+
+-- some texts are the first of others
+abbrev pub IsFrontOf : {X : Type 0} → List X → List X → Type 0
+IsFrontOf {X} front whole = (rest : List X) × (whole ≡ front ++ rest)

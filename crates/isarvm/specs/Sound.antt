@@ -1,0 +1,48 @@
+-- What holds of the program's machine besides what the definitions see of it. Of this project.
+use Rattle.std.specs.Prelude.{◌≡◌, ℕ, Bool, List, [], ◌∷◌, map}
+use Rattle.iv_term.specs.declared.term.Term.TheBlock.{Nil}
+use Rattle.iv_term.specs.Derivation.{axioms_of}
+use Rattle.iv_kernel.specs.Proved.{Proved, Kept}
+use Rattle.iv_kernel.specs.declared.theorems.NamedThm.{NamedThm}
+use Rattle.isarvm.specs.declared.claim.Claim.{Claim}
+use Rattle.isarvm.specs.declared.machine.Phase.{Phase}
+use Rattle.isarvm.specs.declared.machine.Phase.TheVariants as phase
+use Rattle.isarvm.specs.declared.machine.Vm.{Vm}
+use Rattle.isarvm.specs.Machine.{Finished, Stage, Start, Theory, Prove, Ended, Machine, is_taken}
+use Rattle.isarvm.specs.Names.{has_name}
+use Rattle.isarvm.specs.Open.{IsOpen}
+
+-- a theorem keeps a derivation that concludes it, has no hypotheses, and rests on no axiom
+pub record IsClosed (t : Proved) : Type 0 where
+  pub kept : Kept t
+  pub hyps : t.hyps ≡ Nil
+  pub axioms : axioms_of t.derivation ≡ []
+
+-- each of some theorems does
+abbrev pub AllClosed : List NamedThm → Type 0
+AllClosed [] = Unit {0}
+AllClosed (n ∷ ns) = IsClosed n.thm × AllClosed ns
+
+-- what is seen of a theorem: its name and its proposition
+abbrev pub seen : NamedThm → Finished
+seen n = record { name = n.name; prop = n.thm.prop }
+
+abbrev pub stage_of : Phase → Stage
+stage_of phase.Start = Start
+stage_of phase.Theory = Theory
+stage_of (phase.Prove c) = Prove c.label c.parts
+stage_of phase.Ended = Ended
+
+-- the state that the machine is in
+abbrev pub machine_of : Vm → Machine
+machine_of vm = record { stage = stage_of vm.phase; finished = map seen vm.theorems }
+
+abbrev pub IsPhaseSound : Phase → Type 0
+IsPhaseSound (phase.Prove c) = IsOpen c
+IsPhaseSound _ = Unit {0}
+
+-- each finished theorem is closed, the names are those of the finished theorems, and a claim is open
+pub record IsSound (vm : Vm) : Type 0 where
+  pub closed : AllClosed vm.theorems
+  pub names : (q : List ℕ) → has_name vm.names q ≡ is_taken (map seen vm.theorems) q
+  pub claim : IsPhaseSound vm.phase

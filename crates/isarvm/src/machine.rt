@@ -1,0 +1,188 @@
+ghost use Rattle.std.specs.Prelude.{◌≡◌, ◌≢◌, [], ◌∷◌, ◌++◌, map, Some, OnOk, OnErr, IfErr};
+ghost use Rattle.isarvm.specs.Machine.{start, Theory, executed, lemma_row, lemma_at, by_at, oops_at, end_at, theorem_of, Accepted, Refused};
+ghost use Rattle.isarvm.specs.Sound.{IsClosed, IsSound, machine_of, stage_of, seen};
+
+use crate::claim::Claim;
+use crate::commands::{Command, Form};
+use crate::names::Names;
+use crate::parts::Parts;
+use crate::refusal::{Mode, Refusal};
+use iv_kernel::{NamedThm, Theorems, Thm};
+use iv_term::Text;
+use std::alloc::Global;
+
+/// Where the document stands.
+#[derive(Drop)]
+pub enum Phase {
+    /// Nothing was read yet.
+    Start,
+    /// Outside of proofs.
+    Theory,
+    /// In the proof of a claim.
+    Prove(Claim),
+    /// Behind `end`.
+    Ended,
+}
+
+/// The machine that executes the commands of a document.
+#[derive(Drop)]
+pub struct Vm {
+    alloc: Global,
+    phase: Phase,
+    theorems: Theorems,
+    names: Names,
+}
+
+impl Vm {
+    /// A machine before any command.
+    pub fn new(alloc: Global) -> Vm
+        ensures state { machine_of result ≡ start }
+        ensures sound { IsSound result }
+    {
+        Vm {
+            alloc,
+            phase: Phase::Start,
+            theorems: Theorems::new(alloc),
+            names: Names::new(alloc),
+        }
+    }
+
+    /// The theorems that were finished so far, in order.
+    pub fn theorems(&self) -> &Theorems
+        ensures { result.now ≡ self.now.theorems }
+    {
+        &self.theorems
+    }
+
+    /// Executes a command. A refused one leaves the state as it was, and so does want of memory.
+    pub fn exec(&mut self, command: &Command) -> Result<(), Refusal>
+        requires { IsSound self.old }
+        ensures accepted { OnOk result (executed command.now (machine_of self.old) ≡ Accepted (machine_of self.new)) }
+        ensures refused { IfErr result (λ r. r ≢ Refusal.Memory → executed command.now (machine_of self.old) ≡ Refused r) }
+        ensures keeps { OnErr result (machine_of self.new ≡ machine_of self.old) }
+        ensures sound { IsSound self.new }
+    {
+        match &command.form {
+            Form::Lemma(name, parts) => self.lemma(name, parts),
+            Form::ByAssumption => self.by_assumption(),
+            Form::Oops => self.oops(),
+            Form::End => self.end(),
+            Form::Unreadable => Err(Refusal::Syntax(command.at)),
+        }
+    }
+
+    /// States a lemma.
+    fn lemma(&mut self, name: &Text, parts: &Parts) -> Result<(), Refusal>
+        requires { IsSound self.old }
+        ensures accepted { OnOk result (lemma_at name.now parts.now (stage_of self.old.phase) (map seen self.old.theorems) ≡ Accepted (machine_of self.new)) }
+        ensures refused { IfErr result (λ r. r ≢ Refusal.Memory → lemma_at name.now parts.now (stage_of self.old.phase) (map seen self.old.theorems) ≡ Refused r) }
+        ensures keeps { OnErr result (machine_of self.new ≡ machine_of self.old) }
+        ensures sound { IsSound self.new }
+    {
+        match &self.phase {
+            Phase::Start => self.claim(name, parts),
+            Phase::Theory => self.claim(name, parts),
+            Phase::Prove(_claim) => Err(Refusal::Mode(Mode::Prove)),
+            Phase::Ended => Err(Refusal::Mode(Mode::Ended)),
+        }
+    }
+
+    /// Opens the claim of a lemma whose name is new.
+    fn claim(&mut self, name: &Text, parts: &Parts) -> Result<(), Refusal>
+        requires { IsSound self.old }
+        ensures accepted { OnOk result (lemma_row name.now parts.now (map seen self.old.theorems) ≡ Accepted (machine_of self.new)) }
+        ensures refused { IfErr result (λ r. r ≢ Refusal.Memory → lemma_row name.now parts.now (map seen self.old.theorems) ≡ Refused r) }
+        ensures keeps { OnErr result (machine_of self.new ≡ machine_of self.old) }
+        ensures sound { IsSound self.new }
+    {
+        if self.names.has(name) {
+            return Err(Refusal::Name(name.copy()?));
+        }
+        let claim = Claim::open(self.alloc, name, parts)?;
+        self.phase = Phase::Prove(claim);
+        Ok(())
+    }
+
+    /// Finishes a claim by assumption.
+    fn by_assumption(&mut self) -> Result<(), Refusal>
+        requires { IsSound self.old }
+        ensures accepted { OnOk result (by_at (stage_of self.old.phase) (map seen self.old.theorems) ≡ Accepted (machine_of self.new)) }
+        ensures refused { IfErr result (λ r. r ≢ Refusal.Memory → by_at (stage_of self.old.phase) (map seen self.old.theorems) ≡ Refused r) }
+        ensures keeps { OnErr result (machine_of self.new ≡ machine_of self.old) }
+        ensures sound { IsSound self.new }
+    {
+        match &self.phase {
+            Phase::Prove(claim) => {
+                let label = claim.label.copy()?;
+                let thm = claim.prove(self.alloc)?;
+                self.keep(label, thm)
+            }
+            Phase::Start => Err(Refusal::Mode(Mode::Start)),
+            Phase::Theory => Err(Refusal::Mode(Mode::Theory)),
+            Phase::Ended => Err(Refusal::Mode(Mode::Ended)),
+        }
+    }
+
+    /// Keeps a finished theorem under its name.
+    fn keep(&mut self, label: Text, thm: Thm) -> Result<(), Refusal>
+        requires sound { IsSound self.old }
+        requires closed { IsClosed thm }
+        ensures kept { OnOk result (machine_of self.new ≡ record { stage = Theory; finished = map seen self.old.theorems ++ record { name = Some label; prop = thm.prop } ∷ [] }) }
+        ensures refused { IfErr result (λ r. r ≡ Refusal.Memory) }
+        ensures keeps { OnErr result (machine_of self.new ≡ machine_of self.old) }
+        ensures sound { IsSound self.new }
+    {
+        let name = label.copy()?;
+        self.theorems.push(NamedThm {
+            name: Some(label),
+            thm,
+        })?;
+        if let Err(want) = self.names.add(self.alloc, &name) {
+            let _last = self.theorems.pop();
+            return Err(Refusal::from(want));
+        }
+        self.phase = Phase::Theory;
+        Ok(())
+    }
+
+    /// Gives a proof up.
+    fn oops(&mut self) -> Result<(), Refusal>
+        requires { IsSound self.old }
+        ensures accepted { OnOk result (oops_at (stage_of self.old.phase) (map seen self.old.theorems) ≡ Accepted (machine_of self.new)) }
+        ensures refused { IfErr result (λ r. r ≢ Refusal.Memory → oops_at (stage_of self.old.phase) (map seen self.old.theorems) ≡ Refused r) }
+        ensures keeps { OnErr result (machine_of self.new ≡ machine_of self.old) }
+        ensures sound { IsSound self.new }
+    {
+        match &self.phase {
+            Phase::Prove(_claim) => {
+                self.phase = Phase::Theory;
+                Ok(())
+            }
+            Phase::Start => Err(Refusal::Mode(Mode::Start)),
+            Phase::Theory => Err(Refusal::Mode(Mode::Theory)),
+            Phase::Ended => Err(Refusal::Mode(Mode::Ended)),
+        }
+    }
+
+    /// Ends the document.
+    fn end(&mut self) -> Result<(), Refusal>
+        requires { IsSound self.old }
+        ensures accepted { OnOk result (end_at (stage_of self.old.phase) (map seen self.old.theorems) ≡ Accepted (machine_of self.new)) }
+        ensures refused { IfErr result (λ r. r ≢ Refusal.Memory → end_at (stage_of self.old.phase) (map seen self.old.theorems) ≡ Refused r) }
+        ensures keeps { OnErr result (machine_of self.new ≡ machine_of self.old) }
+        ensures sound { IsSound self.new }
+    {
+        match &self.phase {
+            Phase::Start => {
+                self.phase = Phase::Ended;
+                Ok(())
+            }
+            Phase::Theory => {
+                self.phase = Phase::Ended;
+                Ok(())
+            }
+            Phase::Prove(_claim) => Err(Refusal::Mode(Mode::Prove)),
+            Phase::Ended => Err(Refusal::Mode(Mode::Ended)),
+        }
+    }
+}
