@@ -2,3 +2,4 @@ pub mod PieceSteps
 pub mod TokenSteps
 pub mod PartSteps
 pub mod WordSteps
+pub mod LineSteps

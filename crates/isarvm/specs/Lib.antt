@@ -5,3 +5,4 @@ pub mod Place
 pub mod Reading
 pub mod Command
 pub mod Refusal
+pub mod Report

@@ -8,8 +8,10 @@ pub mod pieces;
 pub mod places;
 pub mod reading;
 pub mod refusal;
+pub mod report;
 #[cfg(test)]
 mod tests;
+pub mod text;
 pub mod tokens;
 
 fn main() {}
