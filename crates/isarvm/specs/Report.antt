@@ -3,7 +3,7 @@ use Rattle.std.specs.Prelude.{ℕ, Bool, true, false, List, [], ◌∷◌, ◌++
 use Rattle.std.specs.Fmt.{decimal}
 use Rattle.iv_term.specs.declared.name.Name.{Name}
 use Rattle.iv_term.specs.declared.term.Head.{Head}
-use Rattle.iv_term.specs.declared.term.Head.TheVariants.{Const, Free, Schematic, Bound}
+use Rattle.iv_term.specs.declared.term.Head.TheVariants.{Const, Free, Schematic}
 use Rattle.iv_term.specs.declared.term.Term.{Term}
 use Rattle.iv_term.specs.declared.term.Terms.{Terms}
 use Rattle.iv_term.specs.declared.term.Term.TheBlock.{Spine, Nil}
@@ -45,18 +45,17 @@ abbrev pub is_arrow : Term → Bool
 is_arrow (lam a b) = false
 is_arrow (Spine h ts) = is_constant h
 
--- how a proposition with this head is printed, where that is the text of its sides
-abbrev pub text_at : Head → List ℕ → List ℕ
-text_at (Const c a) sides = sides
-text_at (Free x a) sides = codes "PROP " ++ name_text x
-text_at (Schematic x a) sides = codes "PROP ?" ++ name_text x
-text_at (Bound i) sides = []
+-- how a variable is printed, and nothing for any other head
+abbrev pub variable_text : Head → List ℕ
+variable_text (Free x a) = codes "PROP " ++ name_text x
+variable_text (Schematic x a) = codes "PROP ?" ++ name_text x
+variable_text _ = []
 
 unfoldable mutual
   -- how a proposition is printed, with the fewest parentheses: `==>` associates to the right
   pub prop_text : Term → List ℕ
   prop_text (lam a b) = []
-  prop_text (Spine h ts) = text_at h (sides_text ts)
+  prop_text (Spine h ts) = if is_constant h then sides_text ts else variable_text h
 
   -- the two sides of an implication: a premise that is one itself stands in parentheses
   pub sides_text : Terms → List ℕ

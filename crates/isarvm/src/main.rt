@@ -10,6 +10,8 @@ pub mod reading;
 pub mod refusal;
 pub mod report;
 #[cfg(test)]
+mod report_tests;
+#[cfg(test)]
 mod tests;
 pub mod text;
 pub mod tokens;

@@ -2,7 +2,7 @@
 ghost use Rattle.std.specs.Prelude.{◌≡◌, ◌++◌, OnOk, IfOk, IfErr};
 ghost use Rattle.std.specs.Option.{option_copied};
 ghost use Rattle.iv_term.specs.declared.want.Want.TheVariants.{Memory};
-ghost use Rattle.isarvm.specs.Report.{is_constant, is_arrow, prop_text, sides_text, conclusion_text, theorem_head, theorem_line, mode_text, word_text, cause_text, refusal_line};
+ghost use Rattle.isarvm.specs.Report.{is_constant, is_arrow, enclosed, variable_text, prop_text, theorem_head, theorem_line, mode_text, word_text, cause_text, refusal_line};
 
 use crate::pieces::Word;
 use crate::refusal::{Mode, Refusal};
@@ -30,61 +30,58 @@ fn is_arrow(prop: &Term) -> bool
     }
 }
 
-/// Writes a proposition. Fails where memory runs out.
+/// Writes a variable, and nothing for any other head. Fails where memory runs out.
+fn push_variable(line: &mut Vec<char>, head: &Head) -> Mem<()>
+    ensures ok { OnOk result (line.new.items ≡ line.old.items ++ variable_text head.now) }
+    ensures memory { IfErr result (λ w. w ≡ Memory) }
+{
+    match head {
+        Head::Free(name, _a) => {
+            push_ascii(line, b"PROP ")?;
+            push_name(line, name)
+        }
+        Head::Schematic(name, _a) => {
+            push_ascii(line, b"PROP ?")?;
+            push_name(line, name)
+        }
+        _ => Ok(()),
+    }
+}
+
+/// Writes a premise, in parentheses where it is an implication. Fails where memory runs out.
+#[cycle(push_prop)]
+fn push_premise(line: &mut Vec<char>, premise: &Term) -> Mem<()>
+    ensures ok { OnOk result (line.new.items ≡ line.old.items ++ enclosed (is_arrow premise.now) (prop_text premise.now)) }
+    ensures memory { IfErr result (λ w. w ≡ Memory) }
+{
+    let nested = is_arrow(premise);
+    push_char_if(line, nested, '(')?;
+    push_prop(line, premise)?;
+    push_char_if(line, nested, ')')
+}
+
+/// Writes a proposition: premise by premise, and its conclusion. Fails where memory runs out.
 #[cycle(push_prop)]
 pub fn push_prop(line: &mut Vec<char>, prop: &Term) -> Mem<()>
     ensures ok { OnOk result (line.new.items ≡ line.old.items ++ prop_text prop.now) }
     ensures memory { IfErr result (λ w. w ≡ Memory) }
 {
-    match prop {
-        Term::Abs(_a, _b) => Ok(()),
-        Term::Spine(head, ts) => match head {
-            Head::Const(_c, _a) => push_sides(line, ts),
-            Head::Free(name, _a) => {
-                push_ascii(line, b"PROP ")?;
-                push_name(line, name)
-            }
-            Head::Schematic(name, _a) => {
-                push_ascii(line, b"PROP ?")?;
-                push_name(line, name)
-            }
-            Head::Bound(_i) => Ok(()),
-        },
-    }
-}
-
-/// Writes the sides of an implication. Fails where memory runs out.
-#[cycle(push_prop)]
-fn push_sides(line: &mut Vec<char>, sides: &Terms) -> Mem<()>
-    ensures ok { OnOk result (line.new.items ≡ line.old.items ++ sides_text sides.now) }
-    ensures memory { IfErr result (λ w. w ≡ Memory) }
-{
-    match sides {
-        Terms::Nil => Ok(()),
-        Terms::Cons(first, rest) => {
-            let premise = first.get();
-            let nested = is_arrow(premise);
-            push_char_if(line, nested, '(')?;
-            push_prop(line, premise)?;
-            push_char_if(line, nested, ')')?;
-            push_conclusion(line, rest.get())
+    let mut left = prop;
+    while let Term::Spine(head, sides) = left {
+        if !is_constant(head) {
+            return push_variable(line, head);
         }
+        let Terms::Cons(premise, rest) = sides else {
+            return Ok(());
+        };
+        push_premise(line, premise.get())?;
+        let Terms::Cons(conclusion, _more) = rest.get() else {
+            return Ok(());
+        };
+        push_ascii(line, b" ==> ")?;
+        left = conclusion.get();
     }
-}
-
-/// Writes an arrow and the conclusion behind it. Fails where memory runs out.
-#[cycle(push_prop)]
-fn push_conclusion(line: &mut Vec<char>, rest: &Terms) -> Mem<()>
-    ensures ok { OnOk result (line.new.items ≡ line.old.items ++ conclusion_text rest.now) }
-    ensures memory { IfErr result (λ w. w ≡ Memory) }
-{
-    match rest {
-        Terms::Nil => Ok(()),
-        Terms::Cons(conclusion, _more) => {
-            push_ascii(line, b" ==> ")?;
-            push_prop(line, conclusion.get())
-        }
-    }
+    Ok(())
 }
 
 /// Writes what a theorem's line begins with. Fails where memory runs out.
