@@ -62,7 +62,7 @@ fn push_premise(line: &mut Vec<char>, premise: &Term) -> Mem<()>
 
 /// Writes a proposition: premise by premise, and its conclusion. Fails where memory runs out.
 #[cycle(push_prop)]
-pub fn push_prop(line: &mut Vec<char>, prop: &Term) -> Mem<()>
+fn push_prop(line: &mut Vec<char>, prop: &Term) -> Mem<()>
     ensures ok { OnOk result (line.new.items ≡ line.old.items ++ prop_text prop.now) }
     ensures memory { IfErr result (λ w. w ≡ Memory) }
 {
@@ -113,7 +113,7 @@ pub fn theorem_line(alloc: Global, name: Option<&Text>, prop: &Term) -> Mem<Text
 }
 
 /// How a mode is called.
-pub fn mode_text(mode: Mode) -> &'static [u8]
+fn mode_text(mode: Mode) -> &'static [u8]
     ensures { result.now ≡ mode_text mode }
 {
     match mode {
@@ -125,7 +125,7 @@ pub fn mode_text(mode: Mode) -> &'static [u8]
 }
 
 /// How a command word is spelt, and `?` for any other token.
-pub fn word_text(word: Word) -> &'static [u8]
+fn word_text(word: Word) -> &'static [u8]
     ensures { result.now ≡ word_text word }
 {
     match word {
