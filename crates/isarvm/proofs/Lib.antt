@@ -3,3 +3,4 @@ pub mod TokenSteps
 pub mod PartSteps
 pub mod WordSteps
 pub mod LineSteps
+pub mod PlainTexts

@@ -1,5 +1,5 @@
 -- What several writers in a row append.
-use Rattle.std.proofs.Common.{◌≡◌, ◌<◌, ◌+◌, ◌∙◌, List, [], ◌∷◌, ℕ, ◌++◌, length, take, get_or, codes, encode_utf8_all, encode_utf8, Bool, true, false, Result, OnOk, append_assoc, append-nil, ap, sym, refl}
+use Rattle.std.proofs.Common.{◌≡◌, ◌<◌, ◌+◌, ◌∙◌, List, [], ℕ, ◌++◌, length, take, get_or, codes, encode_utf8_all, encode_utf8, Bool, true, false, Result, OnOk, append_assoc, append-nil, ap, sym, refl}
 use Rattle.std.proofs.lemmas.List.{take_more}
 use Rattle.std.proofs.lemmas.Str.{encodes-append}
 use Rattle.iv_term.specs.declared.term.Head.{Head}
@@ -7,7 +7,7 @@ use Rattle.iv_term.specs.declared.term.Head.TheVariants.{Const, Free, Schematic,
 use Rattle.iv_term.specs.declared.term.Term.{Term}
 use Rattle.iv_term.specs.declared.term.Terms.{Terms}
 use Rattle.iv_term.specs.declared.term.Terms.TheVariants.{Cons}
-use Rattle.iv_term.specs.declared.term.Term.TheBlock.{Spine, Nil}
+use Rattle.iv_term.specs.declared.term.Term.TheBlock.{Spine}
 use Rattle.iv_term.specs.Term.{cons_is}
 use Rattle.isarvm.specs.Report.{enclosed, is_constant, is_arrow, variable_text, prop_text, sides_text, conclusion_text}
 

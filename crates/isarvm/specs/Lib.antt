@@ -6,3 +6,4 @@ pub mod Reading
 pub mod Command
 pub mod Refusal
 pub mod Report
+pub mod Line

@@ -3,6 +3,7 @@
 
 pub mod bytes;
 pub mod commands;
+pub mod lines;
 pub mod parts;
 pub mod pieces;
 pub mod places;
