@@ -7,3 +7,5 @@ pub mod NameSteps
 pub mod StatementSteps
 pub mod Generalising
 pub mod ClaimSteps
+pub mod LineSteps
+pub mod PlainTexts

@@ -10,3 +10,5 @@ pub mod Machine
 pub mod Names
 pub mod Open
 pub mod Sound
+pub mod Report
+pub mod Line

@@ -6,6 +6,7 @@ pub mod claim;
 pub mod commands;
 pub mod machine;
 pub mod names;
+pub mod lines;
 pub mod parts;
 pub mod pieces;
 pub mod places;
@@ -13,8 +14,12 @@ pub mod prove;
 pub mod reading;
 pub mod refusal;
 pub mod statement;
+pub mod report;
+#[cfg(test)]
+mod report_tests;
 #[cfg(test)]
 mod tests;
+pub mod text;
 pub mod tokens;
 
 fn main() {}
