@@ -1,2 +1,4 @@
+pub mod Distinct
 pub mod Follows
 pub mod Goals
+pub mod Propositions

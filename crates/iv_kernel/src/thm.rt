@@ -1,6 +1,6 @@
 ghost use Rattle.std.specs.Prelude.{◌≡◌, IfOk, IfErr, IsTrue, ◌↔◌};
-ghost use Rattle.iv_term.specs.Term.{tm_cons, imp, consequent, IsProposition};
-ghost use Rattle.iv_term.specs.Hyps.{union, without};
+ghost use Rattle.iv_term.specs.Term.{tm_cons, imp, consequent, IsProposition, ArePropositions};
+ghost use Rattle.iv_term.specs.Hyps.{union, without, IsDistinctTerms};
 ghost use Rattle.iv_term.specs.Instance.{put_term, put_hyps};
 ghost use Rattle.iv_term.specs.Derivation.{imp_intr, imp_elim, inst};
 ghost use Rattle.iv_term.specs.declared.want.Want.TheVariants.{Memory};
@@ -42,14 +42,17 @@ impl Model for Thm {
 impl Thm {
     /// The hypotheses.
     pub fn hyps(&self) -> &Terms
-        ensures { result.now ≡ self.now.hyps }
+        ensures same { result.now ≡ self.now.hyps }
+        ensures propositions { ArePropositions self.now.hyps }
+        ensures distinct { IsDistinctTerms self.now.hyps }
     {
         &self.hyps
     }
 
     /// The proposition.
     pub fn prop(&self) -> &Term
-        ensures { result.now ≡ self.now.prop }
+        ensures same { result.now ≡ self.now.prop }
+        ensures proposition { IsProposition self.now.prop }
     {
         &self.prop
     }

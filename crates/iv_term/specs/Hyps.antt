@@ -28,3 +28,8 @@ union ts (tm_cons u us) = union (added ts u) us
 unfoldable pub without : Term → Terms → Terms
 without t Nil = Nil
 without t (tm_cons u us) = if same_term t u then without t us else tm_cons u (without t us)
+
+-- no term is in the list twice
+unfoldable pub IsDistinctTerms : Terms → Type 0
+IsDistinctTerms Nil = Unit {0}
+IsDistinctTerms (tm_cons t ts) = (among t ts ≡ false) × IsDistinctTerms ts

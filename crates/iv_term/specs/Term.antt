@@ -115,6 +115,11 @@ unfoldable mutual
   IsOneProposition Nil = ⊥
   IsOneProposition (tm_cons p ts) = IsProposition p × (ts ≡ Nil)
 
+-- each of some terms is a proposition
+unfoldable pub ArePropositions : Terms → Type 0
+ArePropositions Nil = Unit {0}
+ArePropositions (tm_cons t ts) = IsProposition t × ArePropositions ts
+
 -- whether a head is the free variable x of type a
 abbrev pub is_free : Name → Typ → Head → Bool
 is_free x a (Free y b) = same_name x y && same_typ a b
