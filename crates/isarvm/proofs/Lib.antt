@@ -9,3 +9,5 @@ pub mod Generalising
 pub mod ClaimSteps
 pub mod LineSteps
 pub mod PlainTexts
+
+pub mod MachineSteps

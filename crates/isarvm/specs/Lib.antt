@@ -12,3 +12,5 @@ pub mod Open
 pub mod Sound
 pub mod Report
 pub mod Line
+pub mod Answer
+pub mod Run

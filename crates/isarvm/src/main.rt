@@ -4,22 +4,24 @@
 pub mod bytes;
 pub mod claim;
 pub mod commands;
+pub mod lines;
 pub mod machine;
 pub mod names;
-pub mod lines;
 pub mod parts;
 pub mod pieces;
 pub mod places;
 pub mod prove;
 pub mod reading;
 pub mod refusal;
-pub mod statement;
 pub mod report;
+pub mod run;
+pub mod statement;
+pub mod status;
+pub mod text;
+pub mod tokens;
 #[cfg(test)]
 mod report_tests;
 #[cfg(test)]
 mod tests;
-pub mod text;
-pub mod tokens;
 
 fn main() {}
