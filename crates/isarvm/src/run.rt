@@ -1,4 +1,4 @@
-ghost use Rattle.std.specs.Prelude.{◌≡◌, ◌≢◌, ℕ, ◌+◌, ◌≤◌, ◌⊎◌, Bool, List, [], ◌∷◌, ◌++◌, Some, map, length, All, AllPairs, drop, codes, string_bytes, encode_utf8_all, IsTrue, ◌↔◌, IfOk, IfErr, OnOk, OnErr, if◌then◌else◌};
+ghost use Rattle.std.specs.Prelude.{◌≡◌, ◌≢◌, ℕ, ◌+◌, ◌≤◌, ◌⊎◌, Bool, Err, List, [], ◌∷◌, ◌++◌, Some, map, length, All, AllPairs, drop, codes, string_bytes, encode_utf8_all, IsTrue, ◌↔◌, IfOk, IfErr, OnOk, OnErr, if◌then◌else◌};
 ghost use Rattle.std.specs.List.{flat_map};
 ghost use Rattle.iv_term.specs.declared.want.Want.TheVariants.{Memory};
 ghost use Rattle.iv_io.specs.Counts.{Rose, RoseAbove};
@@ -18,7 +18,7 @@ use crate::report::{refusal_line, theorem_line};
 use crate::status::Status;
 use crate::text::encoded;
 use crate::tokens::LIMIT;
-use iv_io::{ReadError, Sink, Source, read_all, write_all};
+use iv_io::{Failed, ReadError, Sink, Source, read_all, write_all};
 use iv_kernel::{NamedThm, Theorems};
 use iv_term::{Mem, Want};
 use std::alloc::Global;
@@ -37,6 +37,29 @@ pub enum Stop {
     Memory,
     /// The sink failed.
     WriteFault,
+}
+
+impl From<Want> for Stop {
+    ghost use Rattle.std.specs.Prelude.{◌≡◌};
+    ghost use Rattle.isarvm.specs.declared.run.Stop.TheVariants.{Memory};
+
+    // no number of a document of 4 MiB is too great
+    ghost from_gives = { λ _ s. s ≡ Memory };
+
+    fn from(_want: Want) -> Stop {
+        Stop::Memory
+    }
+}
+
+impl From<Failed> for Stop {
+    ghost use Rattle.std.specs.Prelude.{◌≡◌};
+    ghost use Rattle.isarvm.specs.declared.run.Stop.TheVariants.{WriteFault};
+
+    ghost from_gives = { λ _ s. s ≡ WriteFault };
+
+    fn from(_failed: Failed) -> Stop {
+        Stop::WriteFault
+    }
 }
 
 /// The lines of some finished theorems, as bytes. Fails where memory runs out.
@@ -129,4 +152,38 @@ fn new_theorem_bytes(alloc: Global, theorems: &Theorems, before: usize) -> Mem<V
         return Ok(Vec::new(alloc));
     }
     theorem_bytes(alloc, rest_from(theorems.as_slice(), before))
+}
+
+/// Executes commands in order and writes the part of each before the next is executed. Says whether all were
+/// accepted. Stops where memory runs out or the sink fails.
+pub fn execute<K: Sink>(
+    alloc: Global,
+    document: &[u8],
+    commands: &[Command],
+    vm: &mut Vm,
+    sink: &mut K,
+) -> Result<bool, Stop>
+    requires small { length document.now ≤ LIMIT }
+    requires ordered { AllPairs IsNoLater commands.now }
+    requires inside { All (BeginsIn document.now) commands.now }
+    requires sound { IsSound vm.old }
+    ensures accepted { IfOk result (λ b. b ≡ all_accepted (machine_of vm.old) commands.now) }
+    ensures state { OnOk result (machine_of vm.new ≡ state_behind (machine_of vm.old) commands.now) }
+    ensures written { OnOk result ((w : List ℕ) → K.written sink.old ≡ Some w →
+        K.written sink.new ≡ Some (w ++ encode_utf8_all (report_from document.now (machine_of vm.old) commands.now))) }
+    ensures front { (w : List ℕ) → K.written sink.old ≡ Some w → (front : List ℕ) × ((K.written sink.new ≡ Some (w ++ front))
+        × IsFrontOf front (encode_utf8_all (report_from document.now (machine_of vm.old) commands.now))) }
+    ensures finished { IsFrontOf (machine_of vm.new).finished (state_behind (machine_of vm.old) commands.now).finished }
+    ensures fault { result ≡ Err Stop.WriteFault → Rose (K.faults sink.old) (K.faults sink.new) }
+    ensures faults_grow { K.faults sink.old ≤ K.faults sink.new }
+    ensures sound { IsSound vm.new }
+{
+    let mut accepted = true;
+    let mut cursor = Cursor::start();
+    for command in commands {
+        let reported = step(alloc, document, command, vm, &mut cursor)?;
+        accepted = accepted && reported.accepted;
+        write_all(sink, reported.bytes.as_slice())?;
+    }
+    Ok(accepted)
 }

@@ -1,9 +1,15 @@
 use Rattle.std.proofs.Common.{◌≡◌, refl, sym, ap, ◌∙◌, ◌||◌}
-use Rattle.std.specs.Str.{bytes_eq}
-use Rattle.isarvm.specs.Names.{has_name}
-use Rattle.isarvm.specs.Sound.{AllClosed}
+use Rattle.std.specs.Prelude.{Some}
+use Rattle.iv_kernel.specs.declared.theorems.NamedThm.{NamedThm}
 use Rattle.isarvm.proofs.MachineSteps.{AllClosed-push, names-push}
 use Rattle.isarvm.proofs.machine.Vm.keep.Goals as goal
 
 pub returns-clause-sound : goal.returns-clause-sound
-returns-clause-sound c = ?
+returns-clause-sound c =
+    let n : NamedThm = record { name = Some c.args.label; thm = c.args.thm } in
+    rw c.in_ok-push.ensures.ok
+    (record {
+      closed = AllClosed-push _ _ c.requires.sound.closed c.requires.closed;
+      names = λ q. rw c.in_ok-name.ensures.ok at (c.in_default.ensures.ok q) ∙ names-push q c.args.label _ c.args.self.now.theorems n (c.requires.sound.names q) refl;
+      claim = tt;
+    })
