@@ -11,3 +11,4 @@ pub mod LineSteps
 pub mod PlainTexts
 
 pub mod MachineSteps
+pub mod Derivable
