@@ -12,3 +12,4 @@ pub mod PlainTexts
 
 pub mod MachineSteps
 pub mod RunSteps
+pub mod Derivable

@@ -1,6 +1,7 @@
 -- The run of a document and its report. Of this project.
 use Rattle.std.specs.Prelude.{◌≡◌, ℕ, zero, suc, ◌+◌, Bool, true, false, ◌&&◌, List, [], ◌∷◌, ◌++◌, Some, length, drop, encode_utf8_all, if◌then◌else◌}
 use Rattle.std.specs.List.{flat_map}
+use Rattle.iv_term.specs.Derivation.{Derivable}
 use Rattle.isarvm.specs.declared.commands.Command.{Command}
 use Rattle.isarvm.specs.Command.{commands_of}
 use Rattle.isarvm.specs.Place.{line_of, column_of}
@@ -46,6 +47,11 @@ report_of document = encode_utf8_all (report_from document start (commands_of do
 -- the theorems that a document proves, in order
 abbrev pub theorems_of : List ℕ → List Finished
 theorems_of document = (state_behind start (commands_of document)).finished
+
+-- each of some theorems follows from no hypothesis and no axiom
+abbrev pub AllDerivable : List Finished → Type 0
+AllDerivable [] = Unit {0}
+AllDerivable (f ∷ fs) = Derivable [] f.prop × AllDerivable fs
 
 -- whether a document is accepted: no command is refused, and the last one is `end`
 abbrev pub is_done : List ℕ → Bool

@@ -4,6 +4,7 @@
 pub mod bytes;
 pub mod claim;
 pub mod commands;
+pub mod law;
 pub mod lines;
 pub mod machine;
 pub mod names;
