@@ -1,5 +1,5 @@
 -- The theorems of a document: they only grow in number, and each is derivable.
-use Rattle.std.proofs.Common.{◌≡◌, ℕ, Bool, true, false, List, [], ◌∷◌, ◌++◌, refl, sym, ap, ◌∙◌, subst, if◌then◌else◌, append_assoc}
+use Rattle.std.proofs.Common.{◌≡◌, ℕ, Bool, true, false, List, [], ◌∷◌, ◌++◌, refl, sym, ap, ◌∙◌, subst, inl, inr, ◌⊎◌, if◌then◌else◌, append_assoc}
 use Rattle.std.specs.Prelude.{Contains}
 use Rattle.std.specs.List.{list_any}
 use Rattle.std.specs.Str.{bytes_eq}
@@ -8,7 +8,6 @@ use Rattle.iv_text.specs.declared.Pos.{Pos}
 use Rattle.iv_term.specs.declared.term.Term.{Term}
 use Rattle.iv_term.specs.declared.term.Terms.{Terms}
 use Rattle.iv_term.specs.declared.term.Term.TheBlock.{Nil}
-use Rattle.iv_term.specs.declared.instance.VarTerms.{VarTerms}
 use Rattle.iv_term.specs.declared.instance.VarTerms.TheBlock.{Nil as no_entries}
 use Rattle.iv_term.specs.declared.instance.Instance.{Instance}
 use Rattle.iv_term.specs.declared.derivation.Derivation.{Derivation}
@@ -21,7 +20,7 @@ use Rattle.isarvm.specs.declared.commands.Form.TheVariants.{Lemma, ByAssumption,
 use Rattle.isarvm.specs.declared.refusal.Refusal.{Refusal}
 use Rattle.isarvm.specs.Command.{commands_of}
 use Rattle.isarvm.specs.Statement.{statement_of, free_var, schematic_var, last_of, is_solved, with_entry, with_entries, open_hyps}
-use Rattle.isarvm.specs.Machine.{Finished, Stage, Start, Theory, Prove, Ended, Machine, Outcome, Refused, Accepted, is_taken, theorem_of, row, state_after, start, next}
+use Rattle.isarvm.specs.Machine.{Finished, Stage, Start, Theory, Prove, Ended, Machine, Refused, Accepted, is_taken, theorem_of, row, state_after, start, next}
 use Rattle.isarvm.specs.Run.{state_behind, theorems_of, AllDerivable, IsFrontOf}
 use Rattle.isarvm.proofs.StatementSteps.{statement-cons, solved-any}
 use Rattle.isarvm.proofs.Generalising.{free_var-proposition, open_hyps-cons, open_hyps-none, open_hyps-solved, statement-entries, no_entries-fit, absent-nowhere, put-statement, put-no_hyps}
@@ -32,42 +31,53 @@ front-same a = ([], sym (append-nil a))
 pub front-of-front : {X : Type 0} (a b c : List X) → IsFrontOf a b → IsFrontOf b c → IsFrontOf a c
 front-of-front a b c h k = (h.0 ++ k.0, k.1 ∙ ap (λ l. l ++ k.0) h.1 ∙ append_assoc a h.0 k.0)
 
--- the theorems of the state in which a command leaves the machine
+-- the theorems behind a command in this state
 abbrev behind : Pos → Form → Stage → List Finished → List Finished
 behind at f s finished = (state_after (record { stage = s; finished = finished }) (row at f (record { stage = s; finished = finished }))).finished
 
-lemma-same : (b : Bool) (s t : Stage) (r : Refusal) (fs : List Finished)
-    → (state_after (record { stage = s; finished = fs }) (if b then Refused r else Accepted (record { stage = t; finished = fs }))).finished ≡ fs
-lemma-same true s t r fs = refl
-lemma-same false s t r fs = refl
+-- some theorems are these, or these and that of a solved statement behind them
+abbrev AddsSolved : List Finished → List Finished → Type 0
+AddsSolved before after = (after ≡ before)
+    ⊎ ((label : List ℕ) × ((parts : List (List ℕ)) × ((is_solved parts ≡ true) × (after ≡ before ++ theorem_of label parts ∷ []))))
 
-by-grows : (b : Bool) (s : Stage) (r : Refusal) (fs : List Finished) (f : Finished)
-    → IsFrontOf fs (state_after (record { stage = s; finished = fs }) (if b then Accepted (record { stage = Theory; finished = fs ++ f ∷ [] }) else Refused r)).finished
-by-grows true s r fs f = (f ∷ [], refl)
-by-grows false s r fs f = front-same fs
+lemma-keeps : (b : Bool) (s t : Stage) (r : Refusal) (fs : List Finished)
+    → AddsSolved fs (state_after (record { stage = s; finished = fs }) (if b then Refused r else Accepted (record { stage = t; finished = fs }))).finished
+lemma-keeps true s t r fs = inl refl
+lemma-keeps false s t r fs = inl refl
 
-row-grows : (at : Pos) (f : Form) (s : Stage) (fs : List Finished) → IsFrontOf fs (behind at f s fs)
-row-grows at (Lemma name parts) Start fs = ([], lemma-same (is_taken fs name) _ _ _ fs ∙ sym (append-nil fs))
-row-grows at (Lemma name parts) Theory fs = ([], lemma-same (is_taken fs name) _ _ _ fs ∙ sym (append-nil fs))
-row-grows at (Lemma name parts) (Prove label claim) fs = front-same fs
-row-grows at (Lemma name parts) Ended fs = front-same fs
-row-grows at ByAssumption Start fs = front-same fs
-row-grows at ByAssumption Theory fs = front-same fs
-row-grows at ByAssumption (Prove label claim) fs = by-grows (is_solved claim) (Prove label claim) _ fs (theorem_of label claim)
-row-grows at ByAssumption Ended fs = front-same fs
-row-grows at Oops Start fs = front-same fs
-row-grows at Oops Theory fs = front-same fs
-row-grows at Oops (Prove label claim) fs = front-same fs
-row-grows at Oops Ended fs = front-same fs
-row-grows at End Start fs = front-same fs
-row-grows at End Theory fs = front-same fs
-row-grows at End (Prove label claim) fs = front-same fs
-row-grows at End Ended fs = front-same fs
-row-grows at Unreadable s fs = front-same fs
+by-adds : (b : Bool) (s : Stage) (r : Refusal) (fs : List Finished) (label : List ℕ) (parts : List (List ℕ)) → is_solved parts ≡ b
+    → AddsSolved fs (state_after (record { stage = s; finished = fs }) (if b then Accepted (record { stage = Theory; finished = fs ++ theorem_of label parts ∷ [] }) else Refused r)).finished
+by-adds true s r fs label parts e = inr (label, (parts, (e, refl)))
+by-adds false s r fs label parts e = inl refl
+
+row-adds : (at : Pos) (f : Form) (s : Stage) (fs : List Finished) → AddsSolved fs (behind at f s fs)
+row-adds at (Lemma name parts) Start fs = lemma-keeps (is_taken fs name) _ _ _ fs
+row-adds at (Lemma name parts) Theory fs = lemma-keeps (is_taken fs name) _ _ _ fs
+row-adds at (Lemma name parts) (Prove label claim) fs = inl refl
+row-adds at (Lemma name parts) Ended fs = inl refl
+row-adds at ByAssumption Start fs = inl refl
+row-adds at ByAssumption Theory fs = inl refl
+row-adds at ByAssumption (Prove label claim) fs = by-adds (is_solved claim) _ _ fs label claim refl
+row-adds at ByAssumption Ended fs = inl refl
+row-adds at Oops Start fs = inl refl
+row-adds at Oops Theory fs = inl refl
+row-adds at Oops (Prove label claim) fs = inl refl
+row-adds at Oops Ended fs = inl refl
+row-adds at End Start fs = inl refl
+row-adds at End Theory fs = inl refl
+row-adds at End (Prove label claim) fs = inl refl
+row-adds at End Ended fs = inl refl
+row-adds at Unreadable s fs = inl refl
+
+next-adds : (c : Command) (m : Machine) → AddsSolved m.finished (next c m).finished
+next-adds c m = row-adds c.at c.form m.stage m.finished
 
 -- the theorems before a command are the first of those behind it
 pub next-grows : (c : Command) (m : Machine) → IsFrontOf m.finished (next c m).finished
-next-grows c m = row-grows c.at c.form m.stage m.finished
+next-grows c m = elim (next-adds c m) [
+  | inl same ↦ subst (IsFrontOf m.finished) (sym same) (front-same m.finished)
+  | inr more ↦ (theorem_of more.0 more.1.0 ∷ [], more.1.1.1)
+]
 
 -- and of those behind some commands
 pub finished-grows : (m : Machine) (cs : List Command) → IsFrontOf m.finished (state_behind m cs).finished
@@ -110,10 +120,13 @@ general-concludes ps c none =
 
 -- a statement with its conclusion among its premises is derivable
 assumed-derivable : (ps : List (List ℕ)) (c : List ℕ) → list_any (λ p. bytes_eq p c) ps ≡ true → Derivable [] (statement_of schematic_var (ps ++ c ∷ []))
-assumed-derivable ps c e =
-    (inst (general ps c) (chain ps c),
-    (general-concludes ps c (open_hyps-solved ps c e),
-    λ a h. subst (λ (axioms : List (List ℕ × Term)). Contains axioms a) (inst-axioms (general ps c) (chain ps c) (chain-axioms ps c)) h))
+assumed-derivable ps c e = (
+  inst (general ps c) (chain ps c),
+  (
+    general-concludes ps c (open_hyps-solved ps c e),
+    λ a h. subst (λ (axioms : List (List ℕ × Term)). Contains axioms a) (inst-axioms (general ps c) (chain ps c) (chain-axioms ps c)) h,
+  ),
+)
 
 -- the parts in front of the last, with the last behind them
 parts-split : (p : List ℕ) (ps : List (List ℕ)) → (front : List (List ℕ)) × (p ∷ ps ≡ front ++ last_of p ps ∷ [])
@@ -125,6 +138,7 @@ no-parts : is_solved [] ≡ false
 unfolding is_solved
 no-parts = refl
 
+-- the theorem of a solved statement is derivable
 solved-derivable : (parts : List (List ℕ)) → is_solved parts ≡ true → Derivable [] (statement_of schematic_var parts)
 solved-derivable [] e = absurd (let bad : false ≡ true = sym no-parts ∙ e in cc)
 solved-derivable (p ∷ ps) e =
@@ -133,38 +147,22 @@ solved-derivable (p ∷ ps) e =
     subst (λ l. Derivable [] (statement_of schematic_var l)) (sym is)
     (assumed-derivable front (last_of p ps) (sym (solved-any front (last_of p ps)) ∙ ap is_solved (sym is) ∙ e))
 
+-- one more derivable theorem
 derivable-more : (fs : List Finished) (f : Finished) → AllDerivable fs → Derivable [] f.prop → AllDerivable (fs ++ f ∷ [])
 derivable-more [] f h d = (d, tt)
 derivable-more (g ∷ gs) f h d = (h.0, derivable-more gs f h.1 d)
 
-by-derivable : (b : Bool) (parts : List (List ℕ)) (s : Stage) (r : Refusal) (fs : List Finished) (label : List ℕ) → is_solved parts ≡ b → AllDerivable fs
-    → AllDerivable (state_after (record { stage = s; finished = fs }) (if b then Accepted (record { stage = Theory; finished = fs ++ theorem_of label parts ∷ [] }) else Refused r)).finished
-by-derivable true parts s r fs label e h = derivable-more fs (theorem_of label parts) h (solved-derivable parts e)
-by-derivable false parts s r fs label e h = h
-
-row-derivable : (at : Pos) (f : Form) (s : Stage) (fs : List Finished) → AllDerivable fs → AllDerivable (behind at f s fs)
-row-derivable at (Lemma name parts) Start fs h = subst AllDerivable (sym (lemma-same (is_taken fs name) _ _ _ fs)) h
-row-derivable at (Lemma name parts) Theory fs h = subst AllDerivable (sym (lemma-same (is_taken fs name) _ _ _ fs)) h
-row-derivable at (Lemma name parts) (Prove label claim) fs h = h
-row-derivable at (Lemma name parts) Ended fs h = h
-row-derivable at ByAssumption Start fs h = h
-row-derivable at ByAssumption Theory fs h = h
-row-derivable at ByAssumption (Prove label claim) fs h = by-derivable (is_solved claim) claim (Prove label claim) _ fs label refl h
-row-derivable at ByAssumption Ended fs h = h
-row-derivable at Oops Start fs h = h
-row-derivable at Oops Theory fs h = h
-row-derivable at Oops (Prove label claim) fs h = h
-row-derivable at Oops Ended fs h = h
-row-derivable at End Start fs h = h
-row-derivable at End Theory fs h = h
-row-derivable at End (Prove label claim) fs h = h
-row-derivable at End Ended fs h = h
-row-derivable at Unreadable s fs h = h
+-- a command keeps all theorems derivable
+next-derivable : (c : Command) (m : Machine) → AllDerivable m.finished → AllDerivable (next c m).finished
+next-derivable c m h = elim (next-adds c m) [
+  | inl same ↦ subst AllDerivable (sym same) h
+  | inr more ↦ subst AllDerivable (sym more.1.1.1) (derivable-more m.finished (theorem_of more.0 more.1.0) h (solved-derivable more.1.0 more.1.1.0))
+]
 
 behind-derivable : (m : Machine) (cs : List Command) → AllDerivable m.finished → AllDerivable (state_behind m cs).finished
 unfolding state_behind
 behind-derivable m [] h = h
-behind-derivable m (c ∷ cs) h = behind-derivable (next c m) cs (row-derivable c.at c.form m.stage m.finished h)
+behind-derivable m (c ∷ cs) h = behind-derivable (next c m) cs (next-derivable c m h)
 
 -- every theorem that a document proves follows from no hypothesis and no axiom
 pub theorems-derivable : (document : List ℕ) → AllDerivable (theorems_of document)

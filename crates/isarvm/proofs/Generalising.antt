@@ -112,24 +112,28 @@ picked_either p q v false e h = h
 
 with_entry-general : (p : List ℕ) (s : VarTerms) → IsGeneral s → IsGeneral (with_entry p s)
 with_entry-general p s g = elim (with_entry-cases p s) [
-    inl h ↦ subst IsGeneral (sym h.1) (λ q. subst (λ v. (v ≡ None) ⊎ (v ≡ Some (schematic_var q))) (sym (value-entry p q s)) (picked_either p q (value_at s (name_of q) prop) (bytes_eq q p) refl (g q)))
-  | inr h ↦ subst IsGeneral (sym h.1) g ]
+  | inl h ↦ subst IsGeneral (sym h.1) (λ q. subst (λ v. (v ≡ None) ⊎ (v ≡ Some (schematic_var q))) (sym (value-entry p q s)) (picked_either p q (value_at s (name_of q) prop) (bytes_eq q p) refl (g q)))
+  | inr h ↦ subst IsGeneral (sym h.1) g
+]
 
 with_entry-keeps : (p q : List ℕ) (s : VarTerms) → Covers s q → Covers (with_entry p s) q
 with_entry-keeps p q s k = elim (with_entry-cases p s) [
-    inl h ↦ subst (λ t. Covers t q) (sym h.1) (value-entry p q s ∙ picked p q (value_at s (name_of q) prop) (bytes_eq q p) refl k)
-  | inr h ↦ subst (λ t. Covers t q) (sym h.1) k ]
+  | inl h ↦ subst (λ t. Covers t q) (sym h.1) (value-entry p q s ∙ picked p q (value_at s (name_of q) prop) (bytes_eq q p) refl k)
+  | inr h ↦ subst (λ t. Covers t q) (sym h.1) k
+]
 
 with_entry-covers : (p : List ℕ) (s : VarTerms) → IsGeneral s → Covers (with_entry p s) p
 with_entry-covers p s g = elim (with_entry-cases p s) [
-    inl h ↦ subst (λ t. Covers t p) (sym h.1) (value-entry p p s ∙ rw (same_text-same p))
-  | inr h ↦ subst (λ t. Covers t p) (sym h.1) (elim (g p) [ inl n ↦ absurd (h.0 n) | inr k ↦ k ]) ]
+  | inl h ↦ subst (λ t. Covers t p) (sym h.1) (value-entry p p s ∙ rw (same_text-same p))
+  | inr h ↦ subst (λ t. Covers t p) (sym h.1) (elim (g p) [ inl n ↦ absurd (h.0 n) | inr k ↦ k ])
+]
 
 with_entry-entries : (p : List ℕ) (s : VarTerms) → AreEntries s → AreEntries (with_entry p s)
 unfolding AreEntries
 with_entry-entries p s a = elim (with_entry-cases p s) [
-    inl h ↦ subst AreEntries (sym h.1) (refl, schematic_var-proposition p, h.0, a)
-  | inr h ↦ subst AreEntries (sym h.1) a ]
+  | inl h ↦ subst AreEntries (sym h.1) (refl, schematic_var-proposition p, h.0, a)
+  | inr h ↦ subst AreEntries (sym h.1) a
+]
 
 with_entries-keeps : (ps : List (List ℕ)) (q : List ℕ) (s : VarTerms) → Covers s q → Covers (with_entries ps s) q
 unfolding with_entries

@@ -9,7 +9,6 @@ pub mod Generalising
 pub mod ClaimSteps
 pub mod LineSteps
 pub mod PlainTexts
-
 pub mod MachineSteps
 pub mod RunSteps
 pub mod Derivable

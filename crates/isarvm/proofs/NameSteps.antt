@@ -36,6 +36,7 @@ any-insert {K} text q (x ∷ xs) key = cases (slice_cmp nat_cmp (text key) (text
   where
     more : List K
     more = insert_key (λ x y. slice_cmp nat_cmp (text x) (text y)) xs key
+
     cases : (o : Ordering) → is_eq o ≡ bytes_eq (text key) (text x) → list_any (λ k. bytes_eq q (text k)) more ≡ (bytes_eq q (text key) || list_any (λ k. bytes_eq q (text k)) xs)
         → list_any (λ k. bytes_eq q (text k)) (match_ordering o (key ∷ x ∷ xs) (x ∷ xs) (x ∷ more)) ≡ (bytes_eq q (text key) || (bytes_eq q (text x) || list_any (λ k. bytes_eq q (text k)) xs))
     cases Less e h = refl

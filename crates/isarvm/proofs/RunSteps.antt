@@ -1,12 +1,19 @@
 -- Reports of some theorems and commands, one after another.
-use Rattle.std.proofs.Common.{◌≡◌, ◌<◌, ◌+◌, ℕ, List, [], ◌∷◌, ◌++◌, map, length, take, get_or, refl, sym, ap, ◌∙◌, append_assoc, append-nil, arith}
+use Rattle.std.proofs.Common.{◌≡◌, ◌<◌, ◌≤◌, ◌+◌, ℕ, zero, suc, Bool, true, false, ◌&&◌, drop, List, [], ◌∷◌, ◌++◌, map, length, take, get_or, refl, sym, ap, ◌∙◌, subst, ◌⊎◌, inl, inr, append_assoc, append-nil, arith}
 use Rattle.std.specs.Prelude.{encode_utf8, encode_utf8_all}
+use Rattle.std.specs.Bool.{Decides}
+use Rattle.std.specs.Str.{bytes_eq}
+use Rattle.std.proofs.lemmas.Slice.Eq.{bytes_eq-Decides}
 use Rattle.std.specs.List.{flat_map}
-use Rattle.std.proofs.lemmas.List.{take_more}
+use Rattle.std.proofs.lemmas.List.{take_more, drop_all, take-append-drop}
 use Rattle.std.proofs.lemmas.Grind.{flat_map-append}
 use Rattle.iv_kernel.specs.declared.theorems.NamedThm.{NamedThm}
 use Rattle.isarvm.specs.Sound.{seen}
-use Rattle.isarvm.specs.Run.{line_of_finished}
+use Rattle.isarvm.specs.declared.commands.Command.{Command}
+use Rattle.isarvm.specs.Machine.{Machine, executed, next}
+use Rattle.isarvm.specs.Run.{line_of_finished, lines_of, report_from, state_behind, all_accepted, is_accepted, IsFrontOf}
+use Rattle.isarvm.proofs.Derivable.{finished-grows}
+use Rattle.isarvm.proofs.StatementSteps.{drop-earlier}
 
 pub encoded-append : (xs ys : List ℕ) → encode_utf8_all (xs ++ ys) ≡ encode_utf8_all xs ++ encode_utf8_all ys
 encoded-append [] ys = refl
@@ -26,3 +33,105 @@ bytes-push ns i n old line lt is e f =
     let t : take (i + 1) ns ≡ take i ns ++ n ∷ [] = take_more ns i n lt ∙ ap (λ x. take i ns ++ x ∷ []) (sym is) in
     (λ k. e k ++ f k) ∙ sym (encoded-append (flat_map line_of_finished (map seen (take i ns))) (line_of_finished (seen n)))
     ∙ ap encode_utf8_all (sym (lines-push (take i ns) n)) ∙ ap (λ xs. encode_utf8_all (flat_map line_of_finished (map seen xs))) (sym t)
+
+pub drop-seen : (n : ℕ) (ns : List NamedThm) → map seen (drop n ns) ≡ drop n (map seen ns)
+drop-seen zero ns = refl
+drop-seen (suc n) [] = refl
+drop-seen (suc n) (m ∷ ms) = drop-seen n ms
+
+pub none-new : (n : ℕ) (ns : List NamedThm) → length ns ≤ n → [] ≡ encode_utf8_all (flat_map line_of_finished (drop n (map seen ns)))
+none-new n ns le =
+    let e : drop n (map seen ns) ≡ [] = sym (drop-seen n ns) ∙ ap (map seen) (drop_all n ns le) in
+    ap (λ fs. encode_utf8_all (flat_map line_of_finished fs)) (sym e)
+
+-- the command at a place, and the ones behind it
+pub report-step : (document : List ℕ) (m : Machine) (cs : List Command) (i : ℕ) (c : Command) → i < length cs → c ≡ get_or cs i c
+    → report_from document m (drop i cs) ≡ lines_of document c m (executed c m) ++ report_from document (next c m) (drop (i + 1) cs)
+unfolding report_from
+report-step document m cs i c lt is = rw (drop-earlier cs c (i + 1) i (omega arith) refl is)
+
+pub state-step : (m : Machine) (cs : List Command) (i : ℕ) (c : Command) → i < length cs → c ≡ get_or cs i c
+    → state_behind m (drop i cs) ≡ state_behind (next c m) (drop (i + 1) cs)
+unfolding state_behind
+state-step m cs i c lt is = rw (drop-earlier cs c (i + 1) i (omega arith) refl is)
+
+pub accepted-step : (m : Machine) (cs : List Command) (i : ℕ) (c : Command) → i < length cs → c ≡ get_or cs i c
+    → all_accepted m (drop i cs) ≡ (is_accepted (executed c m) && all_accepted (next c m) (drop (i + 1) cs))
+unfolding all_accepted
+accepted-step m cs i c lt is = rw (drop-earlier cs c (i + 1) i (omega arith) refl is)
+
+-- behind the last command
+pub report-end : (document : List ℕ) (m : Machine) (cs : List Command) (i : ℕ) → length cs ≤ i → report_from document m (drop i cs) ≡ []
+unfolding report_from
+report-end document m cs i le = rw (drop_all i cs le)
+
+pub state-end : (m : Machine) (cs : List Command) (i : ℕ) → length cs ≤ i → state_behind m (drop i cs) ≡ m
+unfolding state_behind
+state-end m cs i le = rw (drop_all i cs le)
+
+pub accepted-end : (m : Machine) (cs : List Command) (i : ℕ) → length cs ≤ i → all_accepted m (drop i cs) ≡ true
+unfolding all_accepted
+accepted-end m cs i le = rw (drop_all i cs le)
+
+pub and-true : (a : Bool) → (a && true) ≡ a
+and-true true = refl
+and-true false = refl
+
+pub and-regroup : (a b c : Bool) → (a && (b && c)) ≡ ((a && b) && c)
+and-regroup true b c = refl
+and-regroup false b c = refl
+
+-- what was told, and one command's lines more
+pub told-more : (w told lines bytes : List ℕ) → bytes ≡ encode_utf8_all lines → ((w ++ encode_utf8_all told) ++ bytes) ≡ (w ++ encode_utf8_all (told ++ lines))
+told-more w told lines bytes e =
+    append_assoc w (encode_utf8_all told) bytes ∙ ap (λ t. w ++ (encode_utf8_all told ++ t)) e ∙ ap (λ t. w ++ t) (sym (encoded-append told lines))
+
+pub report-more : (document : List ℕ) (m n : Machine) (cs : List Command) (i : ℕ) (c : Command) (told whole : List ℕ) → i < length cs → c ≡ get_or cs i c
+    → told ++ report_from document m (drop i cs) ≡ whole → n ≡ next c m
+    → (told ++ lines_of document c m (executed c m)) ++ report_from document n (drop (i + 1) cs) ≡ whole
+report-more document m n cs i c told whole lt is e f =
+    append_assoc told (lines_of document c m (executed c m)) (report_from document n (drop (i + 1) cs))
+    ∙ ap (λ k. told ++ (lines_of document c m (executed c m) ++ report_from document k (drop (i + 1) cs))) f
+    ∙ ap (λ t. told ++ t) (sym (report-step document m cs i c lt is)) ∙ e
+
+-- what is told is a front part of the report
+pub front-told : (told rest whole : List ℕ) → told ++ rest ≡ whole → IsFrontOf (encode_utf8_all told) (encode_utf8_all whole)
+front-told told rest whole e = (encode_utf8_all rest, ap encode_utf8_all (sym e) ∙ encoded-append told rest)
+
+pub front-part : (told lines rest whole : List ℕ) (n : ℕ) → told ++ (lines ++ rest) ≡ whole
+    → IsFrontOf (encode_utf8_all told ++ take n (encode_utf8_all lines)) (encode_utf8_all whole)
+front-part told lines rest whole n e = (
+  drop n (encode_utf8_all lines) ++ encode_utf8_all rest,
+  ap encode_utf8_all (sym e) ∙ encoded-append told (lines ++ rest) ∙ ap (λ t. encode_utf8_all told ++ t) (encoded-append lines rest)
+      ∙ ap (λ t. encode_utf8_all told ++ (t ++ encode_utf8_all rest)) (sym (take-append-drop n (encode_utf8_all lines)))
+      ∙ ap (λ t. encode_utf8_all told ++ t) (append_assoc (take n (encode_utf8_all lines)) (drop n (encode_utf8_all lines)) (encode_utf8_all rest))
+      ∙ sym (append_assoc (encode_utf8_all told) (take n (encode_utf8_all lines)) (drop n (encode_utf8_all lines) ++ encode_utf8_all rest)),
+)
+
+-- the theorems of a run that stopped are a front part of those of the whole
+pub front-stopped : (m n : Machine) (cs : List Command) (i : ℕ) (c : Command) (whole : Machine) → i < length cs → c ≡ get_or cs i c
+    → state_behind m (drop i cs) ≡ whole → (n ≡ m) ⊎ (n ≡ next c m) → IsFrontOf n.finished whole.finished
+front-stopped m n cs i c whole lt is e (inl f) =
+    subst (λ k. IsFrontOf k.finished whole.finished) (sym f) (subst (λ k. IsFrontOf m.finished k.finished) e (finished-grows m (drop i cs)))
+front-stopped m n cs i c whole lt is e (inr f) =
+    subst (λ k. IsFrontOf k.finished whole.finished) (sym f)
+    (subst (λ k. IsFrontOf (next c m).finished k.finished) (sym (state-step m cs i c lt is) ∙ e) (finished-grows (next c m) (drop (i + 1) cs)))
+
+pub front-whole : {X : Type 0} (xs ys : List X) → xs ≡ ys → IsFrontOf xs ys
+front-whole xs ys e = ([], sym e ∙ sym (append-nil xs))
+
+one-item : {X : Type 0} (xs : List X) (x : X) → 1 ≤ length xs → length xs < 2 → x ≡ get_or xs 0 x → xs ≡ x ∷ []
+one-item [] x some few is = absurd (omega arith)
+one-item (y ∷ []) x some few is = ap (λ z. z ∷ []) (sym is)
+one-item (y ∷ z ∷ zs) x some few is = absurd (omega arith)
+
+-- the only word is `check` exactly where its bytes are
+pub only-word : {X : Type 0} (bytes : X → List ℕ) (xs : List X) (x : X) (r : Bool) (text word : List ℕ) → 1 ≤ length xs → length xs < 2 → x ≡ get_or xs 0 x
+    → text ≡ bytes x → r ≡ bytes_eq text word → Decides r (map bytes xs ≡ word ∷ [])
+only-word bytes xs x r text word some few is e d =
+    let one : xs ≡ x ∷ [] = one-item xs x some few is in
+    let p : map bytes xs ≡ text ∷ [] = ap (map bytes) one ∙ ap (λ t. t ∷ []) (sym e) in
+    let q = bytes_eq-Decides text word in (
+      λ t. p ∙ ap (λ t. t ∷ []) (q.0 (sym d ∙ t)),
+      λ h. let same : text ∷ [] ≡ word ∷ [] = sym p ∙ h in let eq : text ≡ word = cc in d ∙ q.1 eq,
+    )

@@ -1,5 +1,8 @@
 -- How a run is answered. Of this project.
-use Rattle.std.specs.Prelude.{ℕ}
+use Rattle.std.specs.Prelude.{◌≡◌, ℕ, Bool, List, [], ◌∷◌, map, codes, String, string_bytes, if◌then◌else◌}
+use Rattle.std.specs.declared.alloc.Global.{Global}
+use Rattle.isarvm.specs.declared.run.Stop.{Stop}
+use Rattle.isarvm.specs.declared.run.Stop.TheVariants as stop
 use Rattle.isarvm.specs.declared.status.Status.{Status}
 use Rattle.isarvm.specs.declared.status.Status.TheVariants.{Done, Refused, Usage, Memory, ReadFault, WriteFault, TooLarge, Number}
 
@@ -14,6 +17,28 @@ code_of WriteFault = 5
 code_of TooLarge = 6
 code_of Number = 7
 
+-- the answer where memory runs out after a run
+abbrev pub without_memory : Status → Status
+without_memory Done = Memory
+without_memory Refused = Memory
+without_memory other = other
+
+-- the answer of a run: whether all commands were accepted and the document has ended
+abbrev pub answer_of : Bool → Status
+answer_of b = if b then Done else Refused
+
+-- the words of a command line: the one word `check`
+abbrev pub IsCheck : List (String Global) → Type 0
+IsCheck words = map string_bytes words ≡ codes "check" ∷ []
+
+-- a run that read the document
+abbrev pub IsRun : Status → Type 0
+IsRun Done = Unit {0}
+IsRun Refused = Unit {0}
+IsRun Memory = Unit {0}
+IsRun WriteFault = Unit {0}
+IsRun _ = ⊥
+
 -- the whole document was executed and reported
 abbrev pub IsAnswered : Status → Type 0
 IsAnswered Done = Unit {0}
@@ -26,3 +51,8 @@ IsUnread Usage = Unit {0}
 IsUnread ReadFault = Unit {0}
 IsUnread TooLarge = Unit {0}
 IsUnread _ = ⊥
+
+-- the answer of a run that was cut short
+abbrev pub stopped_by : Stop → Status
+stopped_by stop.Memory = Memory
+stopped_by stop.WriteFault = WriteFault

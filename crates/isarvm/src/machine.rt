@@ -1,5 +1,6 @@
 ghost use Rattle.std.specs.Prelude.{◌≡◌, ◌≢◌, [], ◌∷◌, ◌++◌, map, Some, OnOk, OnErr, IfErr};
 ghost use Rattle.isarvm.specs.Machine.{start, Theory, executed, lemma_row, lemma_at, by_at, oops_at, end_at, theorem_of, Accepted, Refused};
+ghost use Rattle.isarvm.specs.Run.{is_ended};
 ghost use Rattle.isarvm.specs.Sound.{IsClosed, IsSound, machine_of, stage_of, seen};
 
 use crate::claim::Claim;
@@ -52,6 +53,26 @@ impl Vm {
         ensures { result.now ≡ self.now.theorems }
     {
         &self.theorems
+    }
+
+    /// Whether the document has ended.
+    pub fn is_ended(&self) -> bool
+        ensures { result ≡ is_ended (machine_of self.now).stage }
+    {
+        match &self.phase {
+            Phase::Ended => true,
+            Phase::Start => false,
+            Phase::Theory => false,
+            Phase::Prove(_claim) => false,
+        }
+    }
+
+    /// The finished theorems, in order, and no machine any more.
+    pub fn into_theorems(self) -> Theorems
+        ensures { result ≡ self.theorems }
+    {
+        let Vm { theorems, .. } = self;
+        theorems
     }
 
     /// Executes a command. A refused one leaves the state as it was, and so does want of memory.

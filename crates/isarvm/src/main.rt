@@ -1,4 +1,8 @@
 //! A checker of proof documents.
+//!
+//! `isarvm check` reads a document from standard input and writes a line for each theorem that it proves and
+//! for each command that is refused. What it promises stands on [`run::run_isar`], which `main` calls over
+//! standard input and output.
 #![tactic(auto)]
 
 pub mod bytes;
@@ -15,14 +19,58 @@ pub mod prove;
 pub mod reading;
 pub mod refusal;
 pub mod report;
+#[cfg(test)]
+mod report_tests;
 pub mod run;
 pub mod statement;
 pub mod status;
-pub mod text;
-pub mod tokens;
-#[cfg(test)]
-mod report_tests;
 #[cfg(test)]
 mod tests;
+pub mod text;
+pub mod tokens;
 
-fn main() {}
+use crate::run::run_isar;
+use crate::status::Status;
+use iv_io::{StdSink, StdSource};
+use iv_kernel::Theorems;
+use std::env;
+use std::io::{ErrorKind, writer};
+use std::process::ExitCode;
+use std::rt::Env;
+
+/// The words after the program's name. One that isn't UTF-8 is no word of any command.
+fn words(rt: &(impl Env + AllocGlobal)) -> Result<Vec<String>, Status> {
+    let mut words = Vec::new(rt.alloc());
+    match env::args(rt) {
+        Ok(given) => {
+            for word in given.skip(1) {
+                words.push(word).map_err(|_full| Status::Memory)?;
+            }
+            Ok(words)
+        }
+        Err(error) if error.kind() == ErrorKind::InvalidData => Err(Status::Usage),
+        Err(_error) => Err(Status::Memory),
+    }
+}
+
+fn main(rt: HostRuntime) -> ExitCode {
+    let status = match words(&rt) {
+        Ok(words) => {
+            let mut source = StdSource::new(rt.reader());
+            let mut sink = StdSink::new(writer(&rt));
+            let mut proved = Theorems::new(rt.alloc());
+            run_isar(
+                rt.alloc(),
+                words.as_slice(),
+                &mut source,
+                &mut sink,
+                &mut proved,
+            )
+        }
+        Err(status) => status,
+    };
+    if status == Status::Usage {
+        let _ = eprintln!(rt; "usage: isarvm check");
+    }
+    ExitCode::from(status.code())
+}

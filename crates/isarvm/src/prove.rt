@@ -59,12 +59,7 @@ fn schematic_entries(alloc: Global, premises: &[Text], conclusion: &Text) -> Mem
 }
 
 /// A proved statement with its free variables made schematic. Fails where memory runs out.
-pub fn generalised(
-    alloc: Global,
-    thm: &Thm,
-    premises: &[Text],
-    conclusion: &Text,
-) -> Mem<Thm>
+pub fn generalised(alloc: Global, thm: &Thm, premises: &[Text], conclusion: &Text) -> Mem<Thm>
     requires hyps { thm.now.hyps ≡ Nil }
     requires prop { thm.now.prop ≡ statement_of free_var (premises.now ++ conclusion.now ∷ []) }
     ensures prop { IfOk result (λ t. t.prop ≡ statement_of schematic_var (premises.now ++ conclusion.now ∷ [])) }

@@ -1,4 +1,4 @@
-ghost use Rattle.std.specs.Prelude.{◌≡◌, ◌≢◌, ℕ, ◌+◌, ◌≤◌, ◌⊎◌, Bool, Err, List, [], ◌∷◌, ◌++◌, Some, map, length, All, AllPairs, drop, codes, string_bytes, encode_utf8_all, IsTrue, ◌↔◌, IfOk, IfErr, OnOk, OnErr, if◌then◌else◌};
+ghost use Rattle.std.specs.Prelude.{◌≡◌, ◌≢◌, ℕ, ◌+◌, ◌≤◌, ◌<◌, ◌⊎◌, Bool, ◌&&◌, Err, List, [], ◌∷◌, ◌++◌, Some, map, length, All, AllPairs, drop, codes, string_bytes, encode_utf8_all, IsTrue, ◌↔◌, IfOk, IfErr, OnOk, OnErr, if◌then◌else◌};
 ghost use Rattle.std.specs.List.{flat_map};
 ghost use Rattle.iv_term.specs.declared.want.Want.TheVariants.{Memory};
 ghost use Rattle.iv_io.specs.Counts.{Rose, RoseAbove};
@@ -7,7 +7,9 @@ ghost use Rattle.isarvm.specs.Command.{IsNoLater, BeginsIn};
 ghost use Rattle.isarvm.specs.Report.{refusal_line};
 ghost use Rattle.isarvm.specs.Machine.{start, executed, next};
 ghost use Rattle.isarvm.specs.Sound.{IsSound, AllClosed, machine_of, seen};
-ghost use Rattle.isarvm.specs.Run.{line_of_finished, lines_of, report_from, state_behind, all_accepted, is_accepted, is_ended, report_of, theorems_of, is_done, IsFrontOf};
+ghost use Rattle.iv_kernel.specs.declared.theorems.NamedThm.{NamedThm};
+ghost use Rattle.isarvm.specs.Answer.{answer_of, stopped_by, IsCheck, IsRun, IsAnswered, IsUnread};
+ghost use Rattle.isarvm.specs.Run.{AllDerivable, line_of_finished, lines_of, report_from, state_behind, all_accepted, is_accepted, is_ended, report_of, theorems_of, is_done, IsFrontOf};
 
 use crate::bytes::rest_from;
 use crate::commands::{Command, commands};
@@ -154,6 +156,13 @@ fn new_theorem_bytes(alloc: Global, theorems: &Theorems, before: usize) -> Mem<V
     theorem_bytes(alloc, rest_from(theorems.as_slice(), before))
 }
 
+/// Whether both hold.
+fn both(a: bool, b: bool) -> bool
+    ensures { result ≡ (a && b) }
+{
+    a && b
+}
+
 /// Executes commands in order and writes the part of each before the next is executed. Says whether all were
 /// accepted. Stops where memory runs out or the sink fails.
 pub fn execute<K: Sink>(
@@ -182,8 +191,124 @@ pub fn execute<K: Sink>(
     let mut cursor = Cursor::start();
     for command in commands {
         let reported = step(alloc, document, command, vm, &mut cursor)?;
-        accepted = accepted && reported.accepted;
+        accepted = both(accepted, reported.accepted);
         write_all(sink, reported.bytes.as_slice())?;
     }
     Ok(accepted)
+}
+
+/// The answer of a run.
+fn status_of(run: Result<bool, Stop>, ended: bool) -> Status
+    ensures ok { IfOk run (λ accepted. result ≡ answer_of (accepted && ended)) }
+    ensures err { IfErr run (λ stop. result ≡ stopped_by stop) }
+{
+    match run {
+        Ok(accepted) => {
+            if accepted && ended {
+                Status::Done
+            } else {
+                Status::Refused
+            }
+        }
+        Err(Stop::Memory) => Status::Memory,
+        Err(Stop::WriteFault) => Status::WriteFault,
+    }
+}
+
+/// Executes a document, writes its report, and puts its theorems at the end of `proved`.
+pub fn check<K: Sink>(alloc: Global, document: &[u8], sink: &mut K, proved: &mut Theorems) -> Status
+    requires { length document.now ≤ LIMIT }
+    ensures answers { IsRun result }
+    ensures done { IsAnswered result → result ≡ answer_of (is_done document.now) }
+    ensures written { IsAnswered result → (w : List ℕ) → K.written sink.old ≡ Some w →
+        K.written sink.new ≡ Some (w ++ report_of document.now) }
+    ensures front { (w : List ℕ) → K.written sink.old ≡ Some w →
+        (front : List ℕ) × ((K.written sink.new ≡ Some (w ++ front)) × IsFrontOf front (report_of document.now)) }
+    ensures theorems { IsAnswered result →
+        (ts : List NamedThm) × ((proved.new ≡ proved.old ++ ts) × (map seen ts ≡ theorems_of document.now)) }
+    ensures some { (ts : List NamedThm) × ((proved.new ≡ proved.old ++ ts)
+        × (AllClosed ts × IsFrontOf (map seen ts) (theorems_of document.now))) }
+    ensures fault { result ≡ Status.WriteFault → Rose (K.faults sink.old) (K.faults sink.new) }
+    ensures faults_grow { K.faults sink.old ≤ K.faults sink.new }
+{
+    let commands = match commands(alloc, document) {
+        Ok(commands) => commands,
+        Err(_want) => return Status::Memory,
+    };
+    let mut vm = Vm::new(alloc);
+    let run = execute(alloc, document, commands.as_slice(), &mut vm, sink);
+    let status = status_of(run, vm.is_ended());
+    match proved.append(vm.into_theorems()) {
+        Ok(()) => status,
+        Err(_want) => status.without_memory(),
+    }
+}
+
+/// Whether the words are the one word `check`.
+pub fn is_check(words: &[String]) -> bool
+    ensures { IsTrue result ↔ IsCheck words.now }
+{
+    match words {
+        [word] => word.as_str() == "check",
+        _ => false,
+    }
+}
+
+/// Checks a document: reads the source to its end, executes the commands in order, writes the part of the
+/// report of each before the next is executed, and puts the theorems at the end of `proved`.
+///
+/// | Answer | Comes |
+/// |---|---|
+/// | `Done` | no command was refused, the last was `end`, and the whole report was written |
+/// | `Refused` | a command was refused or `end` is missing, and the whole report was written |
+/// | `Usage` | exactly where the words are not the one word `check`; nothing is read or written |
+/// | `Memory` | memory ran out; a front part of the report was written |
+/// | `ReadFault` | only where the source's faults rose; nothing is written |
+/// | `WriteFault` | only where the sink's faults rose; a front part of the report was written |
+/// | `TooLarge` | exactly where more than 4,194,304 bytes were taken; nothing is written |
+/// | `Number` | never, since no number of a document of 4,194,304 bytes is too great |
+pub fn run_isar<S: Source, K: Sink>(
+    alloc: Global,
+    words: &[String],
+    source: &mut S,
+    sink: &mut K,
+    proved: &mut Theorems,
+) -> Status
+    // the statuses
+    ensures usage { (result ≡ Status.Usage) ↔ (¬ (IsCheck words.now)) }
+    ensures usage_reads_nothing { result ≡ Status.Usage → (S.left source.new ≡ S.left source.old)
+        × (S.taken source.new ≡ S.taken source.old) × (S.faults source.new ≡ S.faults source.old) }
+    ensures unread { IsUnread result → (K.written sink.new ≡ K.written sink.old)
+        × (K.faults sink.new ≡ K.faults sink.old) × (proved.new ≡ proved.old) }
+    ensures too_large { result ≡ Status.TooLarge → RoseAbove LIMIT (S.taken source.old) (S.taken source.new) }
+    ensures too_large_told { result ≡ Status.TooLarge → (b : List ℕ) → S.left source.old ≡ Some b → LIMIT < length b }
+    ensures not_too_large { result ≢ Status.TooLarge → S.taken source.new ≤ S.taken source.old + LIMIT }
+    ensures read_fault { result ≡ Status.ReadFault → Rose (S.faults source.old) (S.faults source.new) }
+    ensures write_fault { result ≡ Status.WriteFault → Rose (K.faults sink.old) (K.faults sink.new) }
+    ensures never_number { result ≢ Status.Number }
+    ensures done { IsAnswered result → (b : List ℕ) → S.left source.old ≡ Some b → result ≡ answer_of (is_done b) }
+    // the report, whole after `Done` and `Refused`, and else a front part of it
+    ensures report { IsAnswered result → (b w : List ℕ) → S.left source.old ≡ Some b → K.written sink.old ≡ Some w →
+        K.written sink.new ≡ Some (w ++ report_of b) }
+    ensures front { (b w : List ℕ) → S.left source.old ≡ Some b → K.written sink.old ≡ Some w →
+        (front : List ℕ) × ((K.written sink.new ≡ Some (w ++ front)) × IsFrontOf front (report_of b)) }
+    // the theorems, all after `Done` and `Refused`, and else the first of them; each keeps a derivation that
+    // concludes it without hypotheses and rests on no axiom, whatever the source and the sink tell
+    ensures theorems { IsAnswered result → (b : List ℕ) → S.left source.old ≡ Some b →
+        (ts : List NamedThm) × ((proved.new ≡ proved.old ++ ts) × (map seen ts ≡ theorems_of b)) }
+    ensures closed { (ts : List NamedThm) × ((proved.new ≡ proved.old ++ ts) × (AllClosed ts
+        × ((b : List ℕ) → S.left source.old ≡ Some b → IsFrontOf (map seen ts) (theorems_of b)))) }
+    // each theorem that any document reports is derivable
+    ensures derivable { (b : List ℕ) → AllDerivable (theorems_of b) }
+{
+    if !is_check(words) {
+        return Status::Usage;
+    }
+    let document = match read_all(alloc, source, LIMIT) {
+        Ok(document) => document,
+        Err(ReadError::Failed) => return Status::ReadFault,
+        Err(ReadError::TooLarge) => return Status::TooLarge,
+        Err(ReadError::Memory) => return Status::Memory,
+    };
+    check(alloc, document.as_slice(), sink, proved)
 }

@@ -1,5 +1,5 @@
 ghost use Rattle.std.specs.Prelude.{◌≡◌};
-ghost use Rattle.isarvm.specs.Answer.{code_of};
+ghost use Rattle.isarvm.specs.Answer.{code_of, without_memory};
 
 /// How a run ended.
 #[derive(Clone, Copy, Debug, PartialEq, Eq)]
@@ -36,6 +36,17 @@ impl Status {
             Status::WriteFault => 5,
             Status::TooLarge => 6,
             Status::Number => 7,
+        }
+    }
+
+    /// The answer where memory runs out after the run: a run that was cut short keeps its cause.
+    pub fn without_memory(self) -> Status
+        ensures { result ≡ without_memory self }
+    {
+        match self {
+            Status::Done => Status::Memory,
+            Status::Refused => Status::Memory,
+            other => other,
         }
     }
 }

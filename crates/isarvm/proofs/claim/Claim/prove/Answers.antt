@@ -27,9 +27,9 @@ finish-requires c = c.in_ok-goal.ensures.subgoals ∙ no-premises _
 pub generalised-requires-clause-hyps : goal.generalised-requires-clause-hyps
 generalised-requires-clause-hyps c =
     let hyps : c.in_ok-thm.thm.hyps ≡ Nil =
-        c.in_ok-thm.ensures.hyps
-        ∙ union-none _ _ (ap (λ t. t.hyps) c.thm.ensures.same ∙ c.requires.hyps)
-            (c.in_ok-solved.ensures.hyps ∙ open_hyps-solved _ _ (sym c.is_solved.ensures ∙ c.if-not-is_solved.false)) in
+    c.in_ok-thm.ensures.hyps
+    ∙ union-none _ _ (ap (λ t. t.hyps) c.thm.ensures.same ∙ c.requires.hyps)
+    (c.in_ok-solved.ensures.hyps ∙ open_hyps-solved _ _ (sym c.is_solved.ensures ∙ c.if-not-is_solved.false)) in
     ap (λ t. t.hyps) (c.finish.ensures.thm ∙ c.in_ok-goal.ensures.thm) ∙ hyps
 
 pub returns-clause-solved : goal.returns-clause-solved
@@ -38,7 +38,7 @@ returns-clause-solved c = ap is_solved c.split.ensures ∙ solved-any _ _ ∙ sy
 pub returns-clause-closed : goal.returns-clause-closed
 returns-clause-closed c =
     let axioms : axioms_of c.in_ok-thm.thm.derivation ≡ [] =
-        axioms-elim _ _ _ c.in_ok-thm.ensures.derivation (ap (λ t. axioms_of t.derivation) c.thm.ensures.same ∙ c.requires.axioms) c.in_ok-solved.ensures.axioms in
+    axioms-elim _ _ _ c.in_ok-thm.ensures.derivation (ap (λ t. axioms_of t.derivation) c.thm.ensures.same ∙ c.requires.axioms) c.in_ok-solved.ensures.axioms in
     record {
       kept = c.in_ok-proved.ensures.kept;
       hyps = c.in_ok-proved.ensures.hyps;

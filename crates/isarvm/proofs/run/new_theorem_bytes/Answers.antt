@@ -1,0 +1,6 @@
+use Rattle.std.proofs.Common.{◌≡◌, length, arith}
+use Rattle.isarvm.proofs.RunSteps.{drop-seen, none-new}
+use Rattle.isarvm.proofs.run.new_theorem_bytes.Goals as goal
+
+pub returns-clause-ok : goal.returns-clause-ok
+returns-clause-ok c = rw (c.rest_from.ensures, c.as_slice.ensures, drop-seen) at c.theorem_bytes.ensures.ok
