@@ -42,7 +42,7 @@ added-distinct : (ts : Terms) (t : Term) → IsDistinctTerms ts → IsDistinctTe
 unfolding added
 added-distinct ts t h =
     elim (among t ts) as (λ b. among t ts ≡ b → IsDistinctTerms (if b then ts else snoc ts t)) [
-      true ↦ λ e. h
+      | true ↦ λ e. h
       | false ↦ λ e. snoc-distinct ts t h e
     ] refl
 
@@ -57,7 +57,7 @@ among-without x t Nil h = refl
 among-without x t (tm_cons u us) h =
     let n = or-neither (same_term x u) (among x us) h in
     elim (same_term t u) as (λ b. among x (if b then without t us else tm_cons u (without t us)) ≡ false) [
-      true ↦ among-without x t us n.1
+      | true ↦ among-without x t us n.1
       | false ↦ or-none (same_term x u) (among x (without t us)) n.0 (among-without x t us n.1)
     ]
 
@@ -66,7 +66,7 @@ unfolding IsDistinctTerms without
 without-distinct t Nil h = tt
 without-distinct t (tm_cons u us) h =
     elim (same_term t u) as (λ b. IsDistinctTerms (if b then without t us else tm_cons u (without t us))) [
-      true ↦ without-distinct t us h.1
+      | true ↦ without-distinct t us h.1
       | false ↦ (among-without u t us h.0, without-distinct t us h.1)
     ]
 

@@ -47,7 +47,7 @@ unfolding ArePropositions without
 without-propositions t Nil h = tt
 without-propositions t (tm_cons u us) h =
     elim (same_term t u) as (λ b. ArePropositions (if b then without t us else tm_cons u (without t us))) [
-      true ↦ without-propositions t us h.1
+      | true ↦ without-propositions t us h.1
       | false ↦ (h.0, without-propositions t us h.1)
     ]
 
@@ -57,7 +57,7 @@ unfolding AreEntries value_at
 value-proposition no_entries x a v h e = cc
 value-proposition (entry y b w rest) x a v h e =
     elim (same_name x y && same_typ a b) as (λ c. (if c then Some w else value_at rest x a) ≡ Some v → IsProposition v) [
-      true ↦ λ q. let f : w ≡ v = cc in subst IsProposition f h.1
+      | true ↦ λ q. let f : w ≡ v = cc in subst IsProposition f h.1
       | false ↦ λ q. value-proposition rest x a v h.3 q
     ] e
 
