@@ -1,12 +1,12 @@
 -- No theorem has a hypothesis twice.
-use Rattle.std.proofs.Common.{◌≡◌, Bool, true, false, ◌||◌, refl, sym, ap, subst, ◌∙◌}
+use Rattle.std.proofs.Common.{◌≡◌, Bool, true, false, ◌||◌, refl, sym, subst}
 use Rattle.std.specs.Prelude.{if◌then◌else◌}
 use Rattle.iv_term.specs.declared.term.Term.{Term}
 use Rattle.iv_term.specs.declared.term.Terms.{Terms}
-use Rattle.iv_term.specs.declared.term.Term.TheBlock.{Nil, Cons', Row_of-Term, end_of-Term, more_of-Term, Row_of-Terms, end_of-Terms, more_of-Terms}
+use Rattle.iv_term.specs.declared.term.Term.TheBlock.{Nil}
 use Rattle.iv_term.specs.declared.instance.Instance.{Instance}
 use Rattle.iv_term.specs.declared.derivation.Derivation.{Derivation}
-use Rattle.iv_term.specs.declared.derivation.Derivation.TheBlock.{Axiom, Assume, ImpIntr', ImpElim', Inst', Row_of-Derivation, end_of-Derivation, more_of-Derivation}
+use Rattle.iv_term.specs.declared.derivation.Derivation.TheBlock.{Axiom, Assume}
 use Rattle.iv_term.specs.Term.{tm_cons, same_term}
 use Rattle.iv_term.specs.Hyps.{among, snoc, added, union, without, IsDistinctTerms}
 use Rattle.iv_term.specs.Instance.{put_terms, put_hyps}
