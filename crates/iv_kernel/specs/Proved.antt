@@ -1,12 +1,12 @@
 -- What a theorem is: a sequent with its derivation.
-use Rattle.std.specs.Prelude.{◌≡◌, refl}
+use Rattle.std.specs.Prelude.{◌≡◌}
 use Rattle.iv_term.specs.declared.term.Term.{Term}
 use Rattle.iv_term.specs.declared.term.Terms.{Terms}
 use Rattle.iv_term.specs.declared.instance.Instance.{Instance}
 use Rattle.iv_term.specs.declared.derivation.Derivation.{Derivation}
 use Rattle.iv_term.specs.Term.{imp, consequent}
 use Rattle.iv_term.specs.Instance.{AreEntries, AreAbsent}
-use Rattle.iv_term.specs.Derivation.{Sequent, Concludes}
+use Rattle.iv_term.specs.Derivation.{Concludes}
 
 -- hypotheses, the proposition that follows from them, and the derivation that concludes it
 pub record Proved : Type 0 where

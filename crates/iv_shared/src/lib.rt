@@ -8,3 +8,6 @@
 pub mod shared;
 
 pub use shared::Shared;
+
+#[cfg(test)]
+mod tests;

@@ -6,7 +6,7 @@ use Rattle.iv_term.specs.declared.term.Term.TheBlock.{Nil}
 use Rattle.iv_term.specs.declared.instance.Instance.{Instance}
 use Rattle.iv_term.specs.declared.derivation.Derivation.{Derivation}
 use Rattle.iv_term.specs.declared.derivation.Derivation.TheVariants.{ImpIntr, ImpElim, Inst}
-use Rattle.iv_term.specs.declared.derivation.Derivation.TheBlock.{Axiom, Assume, ImpIntr', ImpElim', Inst', Row_of-Derivation, end_of-Derivation, more_of-Derivation, shape-the_row-Derivation-0, hidden-the_row-Derivation-0}
+use Rattle.iv_term.specs.declared.derivation.Derivation.TheBlock.{Axiom, Assume, ImpIntr', ImpElim', Inst', end_of-Derivation, more_of-Derivation, shape-the_row-Derivation-0, hidden-the_row-Derivation-0}
 use Rattle.iv_term.specs.Term.{tm_cons, imp, IsProposition}
 use Rattle.iv_term.specs.Hyps.{union, without}
 use Rattle.iv_term.specs.Instance.{AreEntries, AreAbsent, put_term, put_hyps}

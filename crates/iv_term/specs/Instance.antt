@@ -1,5 +1,5 @@
 -- Terms put for variables, all at once (of this project), for variables of type prop.
-use Rattle.std.specs.Prelude.{◌≡◌, Bool, false, ◌&&◌, Option, Some, None, IsNone, if◌then◌else◌}
+use Rattle.std.specs.Prelude.{◌≡◌, false, ◌&&◌, Option, Some, None, if◌then◌else◌}
 use Rattle.iv_term.specs.declared.name.Name.{Name}
 use Rattle.iv_term.specs.declared.typ.Typ.{Typ}
 use Rattle.iv_term.specs.declared.term.Head.{Head}
@@ -9,7 +9,7 @@ use Rattle.iv_term.specs.declared.term.Terms.{Terms}
 use Rattle.iv_term.specs.declared.term.Term.TheBlock.{Spine, Nil as no_terms}
 use Rattle.iv_term.specs.declared.instance.VarTerms.{VarTerms}
 use Rattle.iv_term.specs.declared.instance.VarTerms.TheVariants.{Cons}
-use Rattle.iv_term.specs.declared.instance.VarTerms.TheBlock.{Nil, Cons', Row_of-VarTerms, end_of-VarTerms, more_of-VarTerms, shape-the_row-VarTerms-0, hidden-the_row-VarTerms-0}
+use Rattle.iv_term.specs.declared.instance.VarTerms.TheBlock.{Nil, Cons', end_of-VarTerms, more_of-VarTerms, shape-the_row-VarTerms-0, hidden-the_row-VarTerms-0}
 use Rattle.iv_term.specs.declared.instance.Instance.{Instance}
 use Rattle.iv_term.specs.Typ.{prop, same_name, same_typ}
 use Rattle.iv_term.specs.Term.{lam, tm_cons, IsProposition, any_has_free}

@@ -1,5 +1,5 @@
 -- Terms of the logic (Reference Manual, Pure), in their part on implication.
-use Rattle.std.specs.Prelude.{◌≡◌, ℕ, List, Bool, true, false, ◌&&◌, ◌||◌, nat_eq, codes, refl, if◌then◌else◌}
+use Rattle.std.specs.Prelude.{◌≡◌, Bool, true, false, ◌&&◌, ◌||◌, nat_eq, codes, refl}
 use Rattle.std.specs.Str.{bytes_eq}
 use denote.Hole.Carrier.{hidden}
 use Rattle.iv_term.specs.declared.name.Name.{Name}
@@ -10,7 +10,7 @@ use Rattle.iv_term.specs.declared.term.Term.{Term}
 use Rattle.iv_term.specs.declared.term.Term.TheVariants.{Abs}
 use Rattle.iv_term.specs.declared.term.Terms.{Terms}
 use Rattle.iv_term.specs.declared.term.Terms.TheVariants.{Cons}
-use Rattle.iv_term.specs.declared.term.Term.TheBlock.{Abs', Spine, Nil, Cons', Row_of-Term, end_of-Term, more_of-Term, Row_of-Terms, end_of-Terms, more_of-Terms, shape-the_row-Term-0, hidden-the_row-Term-0, shape-the_row-Terms-1, hidden-the_row-Terms-1}
+use Rattle.iv_term.specs.declared.term.Term.TheBlock.{Abs', Spine, Nil, Cons', end_of-Term, more_of-Term, end_of-Terms, more_of-Terms, shape-the_row-Term-0, hidden-the_row-Term-0, shape-the_row-Terms-1, hidden-the_row-Terms-1}
 use Rattle.iv_term.specs.Typ.{prop, fun, same_name, same_typ}
 
 -- an abstraction, and a list of terms with one in front: as patterns, and as what they are

@@ -1,12 +1,12 @@
 -- Simple types (Reference Manual, Pure).
-use Rattle.std.specs.Prelude.{◌≡◌, ℕ, List, Bool, true, false, ◌&&◌, nat_eq, codes, refl}
+use Rattle.std.specs.Prelude.{◌≡◌, Bool, true, false, ◌&&◌, nat_eq, codes, refl}
 use Rattle.std.specs.Str.{bytes_eq}
 use denote.Hole.Carrier.{hidden}
 use Rattle.iv_term.specs.declared.name.Name.{Name}
 use Rattle.iv_term.specs.declared.typ.Typ.{Typ}
 use Rattle.iv_term.specs.declared.typ.Types.{Types}
 use Rattle.iv_term.specs.declared.typ.Types.TheVariants.{Cons}
-use Rattle.iv_term.specs.declared.typ.Typ.TheBlock.{Con, Fixed, Schematic, Nil, Cons', Row_of-Typ, end_of-Typ, more_of-Typ, Row_of-Types, end_of-Types, more_of-Types, shape-the_row-Typ-0, hidden-the_row-Typ-0, shape-the_row-Types-1, hidden-the_row-Types-1}
+use Rattle.iv_term.specs.declared.typ.Typ.TheBlock.{Con, Fixed, Schematic, Nil, Cons', end_of-Typ, more_of-Typ, end_of-Types, more_of-Types, shape-the_row-Typ-0, hidden-the_row-Typ-0, shape-the_row-Types-1, hidden-the_row-Types-1}
 
 -- a list of types with one in front: as a pattern, and as what it is
 pattern abbrev pub ty_cons : Typ → Types → Types

@@ -147,9 +147,9 @@ fn put(value: Option<&Term>, head: &Head, args: Terms) -> Mem<Term>
 {
     match value {
         None => Ok(Term::Spine(head.copy()?, args)),
-        Some(v) => {
+        Some(term) => {
             if args.is_nil() {
-                v.copy()
+                term.copy()
             } else {
                 Ok(Term::Spine(head.copy()?, args))
             }

@@ -21,3 +21,6 @@ pub use term::{Head, Term, Terms};
 pub use text::Text;
 pub use typ::{Typ, Types};
 pub use want::{Mem, Want};
+
+#[cfg(test)]
+mod tests;

@@ -1,12 +1,12 @@
 -- No theorem has a hypothesis twice.
-use Rattle.std.proofs.Common.{◌≡◌, Bool, true, false, ◌||◌, refl, sym, ap, subst, ◌∙◌}
+use Rattle.std.proofs.Common.{◌≡◌, Bool, true, false, ◌||◌, refl, sym, subst}
 use Rattle.std.specs.Prelude.{if◌then◌else◌}
 use Rattle.iv_term.specs.declared.term.Term.{Term}
 use Rattle.iv_term.specs.declared.term.Terms.{Terms}
-use Rattle.iv_term.specs.declared.term.Term.TheBlock.{Nil, Cons', Row_of-Term, end_of-Term, more_of-Term, Row_of-Terms, end_of-Terms, more_of-Terms}
+use Rattle.iv_term.specs.declared.term.Term.TheBlock.{Nil}
 use Rattle.iv_term.specs.declared.instance.Instance.{Instance}
 use Rattle.iv_term.specs.declared.derivation.Derivation.{Derivation}
-use Rattle.iv_term.specs.declared.derivation.Derivation.TheBlock.{Axiom, Assume, ImpIntr', ImpElim', Inst', Row_of-Derivation, end_of-Derivation, more_of-Derivation}
+use Rattle.iv_term.specs.declared.derivation.Derivation.TheBlock.{Axiom, Assume}
 use Rattle.iv_term.specs.Term.{tm_cons, same_term}
 use Rattle.iv_term.specs.Hyps.{among, snoc, added, union, without, IsDistinctTerms}
 use Rattle.iv_term.specs.Instance.{put_terms, put_hyps}
@@ -42,7 +42,7 @@ added-distinct : (ts : Terms) (t : Term) → IsDistinctTerms ts → IsDistinctTe
 unfolding added
 added-distinct ts t h =
     elim (among t ts) as (λ b. among t ts ≡ b → IsDistinctTerms (if b then ts else snoc ts t)) [
-      true ↦ λ e. h
+      | true ↦ λ e. h
       | false ↦ λ e. snoc-distinct ts t h e
     ] refl
 
@@ -57,7 +57,7 @@ among-without x t Nil h = refl
 among-without x t (tm_cons u us) h =
     let n = or-neither (same_term x u) (among x us) h in
     elim (same_term t u) as (λ b. among x (if b then without t us else tm_cons u (without t us)) ≡ false) [
-      true ↦ among-without x t us n.1
+      | true ↦ among-without x t us n.1
       | false ↦ or-none (same_term x u) (among x (without t us)) n.0 (among-without x t us n.1)
     ]
 
@@ -66,7 +66,7 @@ unfolding IsDistinctTerms without
 without-distinct t Nil h = tt
 without-distinct t (tm_cons u us) h =
     elim (same_term t u) as (λ b. IsDistinctTerms (if b then without t us else tm_cons u (without t us))) [
-      true ↦ without-distinct t us h.1
+      | true ↦ without-distinct t us h.1
       | false ↦ (among-without u t us h.0, without-distinct t us h.1)
     ]
 

@@ -1,5 +1,5 @@
 -- Every theorem's sequent consists of propositions.
-use Rattle.std.proofs.Common.{◌≡◌, Bool, true, false, ◌&&◌, refl, sym, ap, subst}
+use Rattle.std.proofs.Common.{◌≡◌, true, false, ◌&&◌, refl, sym, ap, subst}
 use Rattle.std.specs.Prelude.{Option, Some, None, if◌then◌else◌}
 use Rattle.iv_term.specs.declared.name.Name.{Name}
 use Rattle.iv_term.specs.declared.typ.Typ.{Typ}
@@ -7,12 +7,12 @@ use Rattle.iv_term.specs.declared.term.Head.{Head}
 use Rattle.iv_term.specs.declared.term.Head.TheVariants.{Const, Free, Schematic, Bound}
 use Rattle.iv_term.specs.declared.term.Term.{Term}
 use Rattle.iv_term.specs.declared.term.Terms.{Terms}
-use Rattle.iv_term.specs.declared.term.Term.TheBlock.{Abs', Spine, Nil, Cons', Row_of-Term, end_of-Term, more_of-Term, Row_of-Terms, end_of-Terms, more_of-Terms}
+use Rattle.iv_term.specs.declared.term.Term.TheBlock.{Spine, Nil}
 use Rattle.iv_term.specs.declared.instance.VarTerms.{VarTerms}
-use Rattle.iv_term.specs.declared.instance.VarTerms.TheBlock.{Nil as no_entries, Cons' as Entry', Row_of-VarTerms, end_of-VarTerms, more_of-VarTerms}
+use Rattle.iv_term.specs.declared.instance.VarTerms.TheBlock.{Nil as no_entries}
 use Rattle.iv_term.specs.declared.instance.Instance.{Instance}
 use Rattle.iv_term.specs.declared.derivation.Derivation.{Derivation}
-use Rattle.iv_term.specs.declared.derivation.Derivation.TheBlock.{Axiom, Assume, ImpIntr', ImpElim', Inst', Row_of-Derivation, end_of-Derivation, more_of-Derivation}
+use Rattle.iv_term.specs.declared.derivation.Derivation.TheBlock.{Axiom, Assume}
 use Rattle.iv_term.specs.Typ.{same_name, same_typ}
 use Rattle.iv_term.specs.Term.{lam, tm_cons, imp, same_term, IsProposition, AreTwoPropositions, IsOneProposition, ArePropositions}
 use Rattle.iv_term.specs.Hyps.{among, snoc, added, union, without}
@@ -47,7 +47,7 @@ unfolding ArePropositions without
 without-propositions t Nil h = tt
 without-propositions t (tm_cons u us) h =
     elim (same_term t u) as (λ b. ArePropositions (if b then without t us else tm_cons u (without t us))) [
-      true ↦ without-propositions t us h.1
+      | true ↦ without-propositions t us h.1
       | false ↦ (h.0, without-propositions t us h.1)
     ]
 
@@ -57,7 +57,7 @@ unfolding AreEntries value_at
 value-proposition no_entries x a v h e = cc
 value-proposition (entry y b w rest) x a v h e =
     elim (same_name x y && same_typ a b) as (λ c. (if c then Some w else value_at rest x a) ≡ Some v → IsProposition v) [
-      true ↦ λ q. let f : w ≡ v = cc in subst IsProposition f h.1
+      | true ↦ λ q. let f : w ≡ v = cc in subst IsProposition f h.1
       | false ↦ λ q. value-proposition rest x a v h.3 q
     ] e
 

@@ -1,5 +1,5 @@
 -- The tests of sameness decide equality.
-use Rattle.std.proofs.Common.{◌≡◌, ℕ, List, eqb, Bool, true, false, ◌&&◌, refl, sym, ◌∙◌, ap}
+use Rattle.std.proofs.Common.{◌≡◌, ℕ, List, eqb, true, refl, sym, ◌∙◌, ap}
 use Rattle.std.specs.Bool.{Decides}
 use Rattle.std.proofs.lemmas.Bool.{and_parts, and_from}
 use Rattle.std.proofs.lemmas.Bool.Decides.{Decides-eqb}
@@ -8,12 +8,12 @@ use Rattle.std.proofs.lemmas.Slice.Eq.{bytes_eq-Decides}
 use Rattle.iv_term.specs.declared.name.Name.{Name}
 use Rattle.iv_term.specs.declared.typ.Typ.{Typ}
 use Rattle.iv_term.specs.declared.typ.Types.{Types}
-use Rattle.iv_term.specs.declared.typ.Typ.TheBlock.{Con, Fixed, Schematic, Nil, Cons', Row_of-Typ, end_of-Typ, more_of-Typ, Row_of-Types, end_of-Types, more_of-Types}
+use Rattle.iv_term.specs.declared.typ.Typ.TheBlock.{Con, Fixed, Schematic, Nil}
 use Rattle.iv_term.specs.declared.term.Head.{Head}
 use Rattle.iv_term.specs.declared.term.Head.TheVariants.{Const, Free, Schematic as Schem, Bound}
 use Rattle.iv_term.specs.declared.term.Term.{Term}
 use Rattle.iv_term.specs.declared.term.Terms.{Terms}
-use Rattle.iv_term.specs.declared.term.Term.TheBlock.{Abs', Spine, Nil as none, Cons' as TCons', Row_of-Term, end_of-Term, more_of-Term, Row_of-Terms, end_of-Terms, more_of-Terms}
+use Rattle.iv_term.specs.declared.term.Term.TheBlock.{Spine, Nil as none}
 use Rattle.iv_term.specs.Typ.{ty_cons, same_name, same_typ, same_typs}
 use Rattle.iv_term.specs.Term.{lam, tm_cons, same_head, same_term, same_terms}
 

@@ -1,15 +1,14 @@
 -- What a test of a list or of a term says of its parts, for the code's answers.
-use Rattle.std.proofs.Common.{◌≡◌, ℕ, List, Bool, true, false, refl, sym, ◌∙◌, ap, subst}
+use Rattle.std.proofs.Common.{◌≡◌, Bool, true, false, refl, sym, ◌∙◌, ap, subst}
 use Rattle.std.specs.Bool.{Decides}
-use Rattle.std.specs.Prelude.{codes}
 use Rattle.iv_term.specs.declared.typ.Typ.{Typ}
 use Rattle.iv_term.specs.declared.typ.Types.{Types}
 use Rattle.iv_term.specs.declared.typ.Types.TheVariants.{Cons as TyCons}
-use Rattle.iv_term.specs.declared.typ.Typ.TheBlock.{Nil as no_types, Cons' as TyCons', Row_of-Typ, end_of-Typ, more_of-Typ, Row_of-Types, end_of-Types, more_of-Types}
+use Rattle.iv_term.specs.declared.typ.Typ.TheBlock.{Nil as no_types}
 use Rattle.iv_term.specs.declared.term.Term.{Term}
 use Rattle.iv_term.specs.declared.term.Terms.{Terms}
 use Rattle.iv_term.specs.declared.term.Terms.TheVariants.{Cons}
-use Rattle.iv_term.specs.declared.term.Term.TheBlock.{Spine, Abs', Nil, Cons', Row_of-Term, end_of-Term, more_of-Term, Row_of-Terms, end_of-Terms, more_of-Terms}
+use Rattle.iv_term.specs.declared.term.Term.TheBlock.{Spine, Nil}
 use Rattle.iv_term.specs.Typ.{ty_cons, cons_is as ty_cons_is}
 use Rattle.iv_term.specs.declared.term.Head.{Head}
 use Rattle.iv_term.specs.Term.{lam, tm_cons, cons_is, imp, imp_head, first_or, rest_of, are_two, antecedent, consequent, IsImplication, IsProposition, AreTwoPropositions, IsOneProposition}

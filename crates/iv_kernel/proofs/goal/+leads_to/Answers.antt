@@ -1,4 +1,4 @@
-use Rattle.std.proofs.Common.{◌≡◌, ◌-◌, suc, sym, arith}
+use Rattle.std.proofs.Common.{◌-◌, arith}
 use Rattle.iv_kernel.proofs.Laws.Goals.{leads-now, leads-on, leads-no}
 use Rattle.iv_kernel.proofs.goal.+leads_to.Goals as goal
 

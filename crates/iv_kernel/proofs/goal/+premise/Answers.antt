@@ -1,4 +1,4 @@
-use Rattle.std.proofs.Common.{◌≡◌, ◌-◌, ◌<◌, suc, sym, arith}
+use Rattle.std.proofs.Common.{◌-◌, arith}
 use Rattle.iv_kernel.proofs.Laws.Goals.{premise-first, premise-later}
 use Rattle.iv_kernel.proofs.goal.+premise.Goals as goal
 

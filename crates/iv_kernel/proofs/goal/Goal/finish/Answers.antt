@@ -1,4 +1,4 @@
-use Rattle.std.proofs.Common.{◌≡◌, length, [], sym, ◌∙◌, ap, subst, arith}
+use Rattle.std.proofs.Common.{◌≡◌, length, sym, ◌∙◌, ap, subst}
 use Rattle.iv_kernel.proofs.Laws.Goals.{length-premises_of, none-left}
 use Rattle.iv_kernel.specs.Goal.{IsGoalProp}
 use Rattle.iv_kernel.proofs.goal.Goal.finish.Goals as goal

@@ -1,4 +1,4 @@
-use Rattle.std.proofs.Common.{◌≡◌, ◌∷◌, [], sym, ◌∙◌, ap}
+use Rattle.std.proofs.Common.{◌≡◌, ◌∙◌, ap}
 use Rattle.iv_term.specs.Term.{imp}
 use Rattle.iv_kernel.proofs.Laws.Goals.{one-premise, premises-one, without-only}
 use Rattle.iv_kernel.proofs.goal.Goal.init.Goals as goal

@@ -1,4 +1,4 @@
-use Rattle.std.proofs.Common.{◌≡◌, ◌<◌, ◌-◌, length, sym, ◌∙◌, ap, arith}
+use Rattle.std.proofs.Common.{◌≡◌, length, sym, ◌∙◌, ap, arith}
 use Rattle.iv_kernel.proofs.Laws.Goals.{length-premises_of}
 use Rattle.iv_kernel.proofs.goal.Goal.subgoal.Goals as goal
 

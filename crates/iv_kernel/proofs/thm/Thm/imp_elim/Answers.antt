@@ -1,7 +1,6 @@
-use Rattle.std.proofs.Common.{◌≡◌, ◌∙◌, sym, ap}
+use Rattle.std.proofs.Common.{◌≡◌, ◌∙◌, ap}
 use Rattle.iv_term.specs.Term.{imp, consequent}
 use Rattle.iv_term.specs.Derivation.{imp_elim, imp_elim_is}
-use Rattle.iv_kernel.specs.Proved.{CanImpElim}
 use Rattle.iv_kernel.proofs.Laws.Follows.{imp_elim-concludes}
 use Rattle.iv_kernel.proofs.thm.Thm.imp_elim.Goals as goal
 

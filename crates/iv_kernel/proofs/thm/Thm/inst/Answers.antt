@@ -1,5 +1,5 @@
 use Rattle.std.proofs.Common.{◌≡◌, ◌∙◌, ap}
-use Rattle.iv_term.specs.Instance.{AreEntries, AreAbsent}
+use Rattle.iv_term.specs.Instance.{AreAbsent}
 use Rattle.iv_term.specs.Derivation.{inst, inst_is}
 use Rattle.iv_kernel.proofs.Laws.Follows.{inst-concludes}
 use Rattle.iv_kernel.proofs.thm.Thm.inst.Goals as goal

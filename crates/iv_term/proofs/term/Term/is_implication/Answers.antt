@@ -1,5 +1,4 @@
-use Rattle.iv_term.specs.Term.{abs_is}
-use Rattle.iv_term.proofs.Laws.Tests.{implication_yes, implication_no, implication_abs}
+use Rattle.iv_term.proofs.Laws.Tests.{implication_yes}
 use Rattle.iv_term.proofs.term.Term.is_implication.Goals as goal
 
 pub returns-then-is_implication : goal.returns-then-is_implication
