@@ -22,6 +22,8 @@ pub mod report;
 #[cfg(test)]
 mod report_tests;
 pub mod run;
+#[cfg(test)]
+mod run_tests;
 pub mod statement;
 pub mod status;
 #[cfg(test)]
