@@ -1,5 +1,5 @@
 -- What the goal of an open claim gives.
-use Rattle.std.proofs.Common.{◌≡◌, ℕ, List, [], ◌∷◌, ◌++◌, refl, sym, ap, ◌∙◌}
+use Rattle.std.proofs.Common.{◌≡◌, ℕ, List, [], ◌∷◌, ◌++◌, refl, ap, ◌∙◌}
 use Rattle.iv_term.specs.declared.term.Term.{Term}
 use Rattle.iv_term.specs.declared.term.Terms.{Terms}
 use Rattle.iv_term.specs.declared.term.Term.TheBlock.{Nil}

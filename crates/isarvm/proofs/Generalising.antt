@@ -1,19 +1,16 @@
 -- Statements with schematic variables put for their free ones.
-use Rattle.std.proofs.Common.{◌≡◌, ◌≢◌, ◌≤◌, ◌<◌, ◌+◌, ℕ, suc, Bool, true, false, ◌||◌, ◌&&◌, List, [], ◌∷◌, ◌++◌, length, drop, get_or, refl, sym, ap, ◌∙◌, subst, inl, inr, ◌⊎◌, arith, if◌then◌else◌}
+use Rattle.std.proofs.Common.{◌≡◌, ◌≢◌, ◌≤◌, ◌<◌, ◌+◌, ℕ, Bool, true, false, ◌||◌, ◌&&◌, List, [], ◌∷◌, ◌++◌, length, drop, get_or, refl, sym, ap, ◌∙◌, subst, inl, inr, ◌⊎◌, arith, if◌then◌else◌}
 use Rattle.std.specs.Bool.{Decides}
 use Rattle.std.proofs.lemmas.List.{drop_all}
 use Rattle.std.specs.Prelude.{Option, Some, None, is_none}
 use Rattle.std.specs.List.{list_any}
 use Rattle.std.specs.Str.{bytes_eq}
-use Rattle.iv_term.specs.declared.name.Name.{Name}
-use Rattle.iv_term.specs.declared.typ.Typ.{Typ}
 use Rattle.iv_term.specs.declared.term.Term.{Term}
-use Rattle.iv_term.specs.declared.term.Terms.{Terms}
 use Rattle.iv_term.specs.declared.term.Term.TheBlock.{Nil}
 use Rattle.iv_term.specs.declared.instance.VarTerms.{VarTerms}
-use Rattle.iv_term.specs.declared.instance.VarTerms.TheBlock.{Nil as no_entries, Cons', Row_of-VarTerms, end_of-VarTerms, more_of-VarTerms}
+use Rattle.iv_term.specs.declared.instance.VarTerms.TheBlock.{Nil as no_entries}
 use Rattle.iv_term.specs.declared.instance.Instance.{Instance}
-use Rattle.iv_term.specs.Typ.{prop, same_name, same_typ, same_typs}
+use Rattle.iv_term.specs.Typ.{prop, same_typ, same_typs}
 use Rattle.iv_term.specs.Term.{imp, tm_cons, IsProposition, same_term, same_terms, any_has_free}
 use Rattle.iv_term.specs.Hyps.{without, union}
 use Rattle.iv_term.specs.Instance.{entry, value_at, AreEntries, AreAbsent, put_term, put_terms, put_hyps}

@@ -1,10 +1,9 @@
 -- The machine's theorems and names, when one more theorem is kept.
 use Rattle.std.proofs.Common.{◌≡◌, ℕ, Bool, true, false, ◌||◌, List, [], ◌∷◌, ◌++◌, map, refl, sym, ap, ◌∙◌}
 use Rattle.std.specs.Prelude.{Some}
-use Rattle.std.specs.List.{list_any}
 use Rattle.std.specs.Str.{bytes_eq}
 use Rattle.iv_kernel.specs.declared.theorems.NamedThm.{NamedThm}
-use Rattle.isarvm.specs.Machine.{Finished, is_taken, is_named}
+use Rattle.isarvm.specs.Machine.{is_taken, is_named}
 use Rattle.isarvm.specs.Sound.{IsClosed, AllClosed, seen}
 
 pub AllClosed-push : (ns : List NamedThm) (n : NamedThm) → AllClosed ns → IsClosed n.thm → AllClosed (ns ++ n ∷ [])

@@ -6,7 +6,6 @@ use Rattle.std.specs.Str.{bytes_eq}
 use Rattle.std.proofs.lemmas.Slice.Eq.{bytes_eq-Decides}
 use Rattle.std.specs.List.{flat_map}
 use Rattle.std.proofs.lemmas.List.{take_more, drop_all, take-append-drop}
-use Rattle.std.proofs.lemmas.Grind.{flat_map-append}
 use Rattle.iv_kernel.specs.declared.theorems.NamedThm.{NamedThm}
 use Rattle.isarvm.specs.Sound.{seen}
 use Rattle.isarvm.specs.declared.commands.Command.{Command}

@@ -1,5 +1,5 @@
 -- The machine and its transition table, for `lemma`, `by assumption`, `oops` and `end` (Wenzel 2002).
-use Rattle.std.specs.Prelude.{◌≡◌, ℕ, Bool, false, Option, Some, None, List, [], ◌∷◌, ◌++◌, if◌then◌else◌}
+use Rattle.std.specs.Prelude.{ℕ, Bool, false, Option, Some, None, List, [], ◌∷◌, ◌++◌, if◌then◌else◌}
 use Rattle.std.specs.List.{list_any}
 use Rattle.std.specs.Str.{bytes_eq}
 use Rattle.iv_term.specs.declared.term.Term.{Term}

@@ -1,5 +1,5 @@
 -- The run of a document and its report. Of this project.
-use Rattle.std.specs.Prelude.{◌≡◌, ℕ, zero, suc, ◌+◌, Bool, true, false, ◌&&◌, List, [], ◌∷◌, ◌++◌, Some, length, drop, encode_utf8_all, if◌then◌else◌}
+use Rattle.std.specs.Prelude.{◌≡◌, ℕ, Bool, true, false, ◌&&◌, List, [], ◌∷◌, ◌++◌, length, drop, encode_utf8_all}
 use Rattle.std.specs.List.{flat_map}
 use Rattle.iv_term.specs.Derivation.{Derivable}
 use Rattle.isarvm.specs.declared.commands.Command.{Command}

@@ -1,10 +1,9 @@
 -- What holds of the program's machine besides what the definitions see of it. Of this project.
-use Rattle.std.specs.Prelude.{◌≡◌, ℕ, Bool, List, [], ◌∷◌, map}
+use Rattle.std.specs.Prelude.{◌≡◌, ℕ, List, [], ◌∷◌, map}
 use Rattle.iv_term.specs.declared.term.Term.TheBlock.{Nil}
 use Rattle.iv_term.specs.Derivation.{axioms_of}
 use Rattle.iv_kernel.specs.Proved.{Proved, Kept}
 use Rattle.iv_kernel.specs.declared.theorems.NamedThm.{NamedThm}
-use Rattle.isarvm.specs.declared.claim.Claim.{Claim}
 use Rattle.isarvm.specs.declared.machine.Phase.{Phase}
 use Rattle.isarvm.specs.declared.machine.Phase.TheVariants as phase
 use Rattle.isarvm.specs.declared.machine.Vm.{Vm}

@@ -1,4 +1,4 @@
--- What a theorem is: a sequent with its derivation.
+-- What a theorem is: a sequent with its derivation. Of this project.
 use Rattle.std.specs.Prelude.{◌≡◌}
 use Rattle.iv_term.specs.declared.term.Term.{Term}
 use Rattle.iv_term.specs.declared.term.Terms.{Terms}

@@ -1,4 +1,4 @@
--- Lists of hypotheses without repeats.
+-- Lists of hypotheses without repeats. Of this project.
 use Rattle.std.specs.Prelude.{◌≡◌, Bool, false, ◌||◌, if◌then◌else◌}
 use Rattle.iv_term.specs.declared.term.Term.{Term}
 use Rattle.iv_term.specs.declared.term.Terms.{Terms}

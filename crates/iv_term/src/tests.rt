@@ -179,3 +179,39 @@ fn a_value_is_put(rt: HostRuntime) {
     let put = got(&rt, instance_of(alloc, &a));
     assert!(rt; put.is(&b));
 }
+
+#[test]
+fn texts(rt: HostRuntime) {
+    let alloc = rt.alloc();
+    let chars = Vec::from_array(alloc, ['a', 'b']).expect(&rt, "memory");
+    let text = got(&rt, Text::from_vec(alloc, chars));
+    let same = got(&rt, Text::from_slice(alloc, &['a', 'b']));
+    assert!(rt; text.is(&same) && text.is_chars(&['a', 'b']) && !text.is_chars(&['a']));
+    assert_eq!(rt; text.as_slice().len(), 2);
+}
+
+#[test]
+fn lists_are_copied(rt: HostRuntime) {
+    let alloc = rt.alloc();
+    let a = got(&rt, free(alloc, 'A'));
+    let b = got(&rt, free(alloc, 'B'));
+    let both = got(&rt, two(alloc, &a, &b));
+    let copy = got(&rt, both.copy());
+    assert!(rt; are_same(both, copy));
+}
+
+#[test]
+fn equal_hypotheses_stand_once(rt: HostRuntime) {
+    let alloc = rt.alloc();
+    let b = got(&rt, free(alloc, 'B'));
+    let both = got(&rt, two(alloc, &got(&rt, free(alloc, 'A')), &b));
+    let put = got(&rt, put_b_for_a(alloc, &both));
+    let once = got(&rt, Terms::only(alloc, &b));
+    assert!(rt; are_same(put, once));
+}
+
+/// Hypotheses with B put for A, through a copy of the instance.
+fn put_b_for_a(alloc: Global, hyps: &Terms) -> Mem<Terms> {
+    let copy = instance(alloc)?.copy()?;
+    hyps.put_hyps(alloc, &copy)
+}

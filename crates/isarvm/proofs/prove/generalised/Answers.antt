@@ -1,6 +1,4 @@
-use Rattle.std.proofs.Common.{◌≡◌, sym, ◌∙◌}
 use Rattle.std.proofs.lemmas.Result.{IfOk-weaker}
-use Rattle.iv_term.specs.Instance.{AreEntries, AreAbsent}
 use Rattle.iv_term.specs.Derivation.{axioms_of}
 use Rattle.isarvm.proofs.Generalising.{statement-entries, no_entries-fit, absent-nowhere, put-statement, put-no_hyps}
 use Rattle.isarvm.proofs.prove.generalised.Goals as goal

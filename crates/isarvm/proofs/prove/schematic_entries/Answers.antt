@@ -1,4 +1,4 @@
-use Rattle.std.proofs.Common.{◌≡◌, sym, ◌∙◌, arith}
+use Rattle.std.proofs.Common.{sym, ◌∙◌, arith}
 use Rattle.isarvm.proofs.Generalising.{with_entries-step, with_entries-end}
 use Rattle.isarvm.proofs.prove.schematic_entries.Goals as goal
 

@@ -1,8 +1,7 @@
-use Rattle.std.proofs.Common.{◌≡◌, ◌≤◌, ◌<◌, ◌+◌, ℕ, List, [], ◌++◌, length, drop, take, get_or, refl, sym, ap, ◌∙◌, append_assoc, append-nil, ◌&&◌, ◌⊎◌, inl, inr, arith}
+use Rattle.std.proofs.Common.{◌≡◌, ◌<◌, ◌+◌, ◌++◌, length, drop, take, get_or, sym, ap, ◌∙◌, append_assoc, append-nil, ◌&&◌, inr, arith}
 use Rattle.std.specs.Prelude.{Some, encode_utf8_all}
 use Rattle.std.proofs.lemmas.List.{get_or_default}
-use Rattle.isarvm.specs.declared.commands.Command.{Command}
-use Rattle.isarvm.specs.Machine.{Machine, executed, next}
+use Rattle.isarvm.specs.Machine.{executed, next}
 use Rattle.isarvm.specs.Sound.{machine_of}
 use Rattle.isarvm.specs.Run.{lines_of, report_from, state_behind, all_accepted, is_accepted}
 use Rattle.isarvm.proofs.RunSteps.{told-more, report-more, report-step, report-end, state-step, state-end, accepted-step, accepted-end, and-true, and-regroup, front-told, front-part, front-stopped, front-whole}

@@ -1,5 +1,4 @@
-use Rattle.std.proofs.Common.{◌≡◌, length, arith}
-use Rattle.isarvm.proofs.RunSteps.{drop-seen, none-new}
+use Rattle.isarvm.proofs.RunSteps.{drop-seen}
 use Rattle.isarvm.proofs.run.new_theorem_bytes.Goals as goal
 
 pub returns-clause-ok : goal.returns-clause-ok

@@ -1,4 +1,4 @@
-use Rattle.std.proofs.Common.{◌≡◌, ◌++◌, sym, ◌∙◌, arith}
+use Rattle.std.proofs.Common.{◌∙◌, arith}
 use Rattle.isarvm.proofs.RunSteps.{bytes-push}
 use Rattle.isarvm.proofs.run.theorem_bytes.Goals as goal
 

@@ -1,4 +1,4 @@
-use Rattle.std.proofs.Common.{◌≡◌, [], ◌∷◌, sym, ap, ◌∙◌}
+use Rattle.std.proofs.Common.{[], ◌∷◌, sym, ap, ◌∙◌}
 use Rattle.isarvm.specs.Statement.{statement_of, free_var}
 use Rattle.isarvm.proofs.ClaimSteps.{statement-proposition, axioms-start}
 use Rattle.isarvm.proofs.claim.Claim.open.Goals as goal

@@ -1,4 +1,4 @@
-use Rattle.std.proofs.Common.{◌≡◌, refl, sym, ap, ◌∙◌, ◌||◌}
+use Rattle.std.proofs.Common.{refl, ◌∙◌}
 use Rattle.std.specs.Prelude.{Some}
 use Rattle.iv_kernel.specs.declared.theorems.NamedThm.{NamedThm}
 use Rattle.isarvm.proofs.MachineSteps.{AllClosed-push, names-push}

@@ -1,4 +1,3 @@
-use Rattle.std.proofs.Common.{◌∙◌}
 use Rattle.isarvm.proofs.NameSteps.{any-insert}
 use Rattle.isarvm.proofs.names.Names.add.Goals as goal
 
