@@ -1,0 +1,4 @@
+pub mod SearchTree
+pub mod Moments
+pub mod Pull
+pub mod Laws
