@@ -1,5 +1,5 @@
 -- What a search does, moment by moment: a search tree read from left to right.
-use Rattle.std.specs.Prelude.{ℕ, zero, suc, Bool, true, false, if◌then◌else◌, List, [], ◌∷◌, ◌++◌, Option, None, Some}
+use Rattle.std.specs.Prelude.{ℕ, zero, suc, Bool, true, false, if◌then◌else◌, List, [], ◌∷◌, ◌++◌, Option, None, Some, ◌⊎◌}
 use Rattle.iv_seq.specs.SearchTree.{SearchTree, none, one, join, work}
 
 -- a piece of counted work begins, or a leaf is met
@@ -81,3 +81,18 @@ works (suc n) m = begins ∷ works n m
 abbrev pub ready : {A : Type 0} → Option A → List (Moment A)
 ready None = []
 ready (Some x) = meets x ∷ []
+
+-- the search of a sequence that may be there
+abbrev pub held : {S A : Type 0} → (S → List (Moment A)) → Option S → List (Moment A)
+held search None = []
+held search (Some s) = search s
+
+-- some leaf has the property
+abbrev pub MeetsSome : {A : Type 0} → (A → Type 0) → List (Moment A) → Type 0
+MeetsSome P [] = ⊥
+MeetsSome P (begins ∷ m) = MeetsSome P m
+MeetsSome P (meets x ∷ m) = P x ⊎ MeetsSome P m
+
+-- what a bind still has to do: the branch at hand, and then the branches of the items to come
+abbrev pub branching : {S A B : Type 0} → (S → List (Moment B)) → (A → List (Moment B)) → Option S → Option A → List (Moment A) → List (Moment B)
+branching search means branch item m = held search branch ++ bound (ready item ++ m) means

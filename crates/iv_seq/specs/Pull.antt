@@ -1,8 +1,8 @@
 -- What one pull on a lazy sequence does: to its search, to its test of items, to its cause of Number.
-use Rattle.std.specs.Prelude.{◌≡◌, ℕ, ◌+◌, ◌≤◌, List, [], ◌∷◌, Option, None, Some, Result, Ok, Err}
+use Rattle.std.specs.Prelude.{◌≡◌, ℕ, ◌+◌, ◌≤◌, Bool, true, false, List, [], ◌∷◌, Option, None, Some, Result, Ok, Err}
 use Rattle.iv_term.specs.declared.want.Want.{Want}
 use Rattle.iv_term.specs.declared.want.Want.TheVariants.{Number}
-use Rattle.iv_seq.specs.Moments.{Moment, meets, works, work_before}
+use Rattle.iv_seq.specs.Moments.{Moment, meets, works, work_before, meets_any}
 
 -- the leaf that came out, and the search that is left
 abbrev pub came : {A : Type 0} → Result (Option A) Want → List (Moment A) → List (Moment A)
@@ -35,6 +35,10 @@ pub record Advanced {A : Type 0} (old : List (Moment A)) (start : ℕ) (new : Li
 abbrev pub Within : {A : Type 0} → (A → Type 0) → (A → Type 0) → Type 0
 Within {A} P Q = (x : A) → ∥ P x ∥₁ → ∥ Q x ∥₁
 
+-- two tests of the same items
+abbrev pub Same : {A : Type 0} → (A → Type 0) → (A → Type 0) → Type 0
+Same P Q = Within P Q × Within Q P
+
 -- the item that came out meets the test
 abbrev pub FitsItem : {A : Type 0} → (A → Type 0) → Result (Option A) Want → Type 0
 FitsItem P (Ok (Some x)) = ∥ P x ∥₁
@@ -51,3 +55,13 @@ pub record Fitting {A : Type 0} (old : A → Type 0) (result : Result (Option A)
 pub record Limited {T : Type 0} (old : Type 0) (result : Result T Want) (new : Type 0) : Type 0 where
   pub number : result ≡ Err Number → ∥ old ∥₁
   pub shrinks : ∥ new ∥₁ → ∥ old ∥₁
+
+-- the second of two searches is still needed: the first wasn't chosen, and meets no leaf
+abbrev pub IsNeeded : {A : Type 0} → (chosen : Bool) → List (Moment A) → Type 0
+IsNeeded true m = ⊥
+IsNeeded false m = meets_any m ≡ false
+
+-- a part of a pull that gives no leaf: the search went on, or it failed
+abbrev pub Moved : {A : Type 0} → List (Moment A) → ℕ → Result (Unit {0}) Want → List (Moment A) → ℕ → Type 0
+Moved old start (Ok u) new stop = Advanced old start new stop
+Moved old start (Err e) new stop = Pulled old start (Err e) new stop

@@ -1,4 +1,5 @@
-ghost use Rattle.std.specs.Prelude.{◌≡◌, ◌++◌, ◌⊎◌};
+ghost use Rattle.std.specs.Prelude.{◌≡◌, ◌++◌, ◌⊎◌, ◌↔◌};
+ghost use Rattle.iv_seq.specs.Pull.{Same};
 
 use crate::lazy::LazySeq;
 use crate::steps::Steps;
@@ -16,6 +17,8 @@ impl<A: LazySeq, B: LazySeq<Item = A::Item>> Append<A, B> {
     /// A sequence with the leaves of `first`, then those of `second`.
     pub fn new(first: A, second: B) -> Append<A, B>
         ensures search { ⟦<Append<A, B> as LazySeq>⟧.search result ≡ A.search first ++ B.search second }
+        ensures fits { Same (⟦<Append<A, B> as LazySeq>⟧.fits result) (λ x. A.fits first x ⊎ B.fits second x) }
+        ensures overflows { ∥ ⟦<Append<A, B> as LazySeq>⟧.overflows result ∥₁ ↔ ∥ A.overflows first ⊎ B.overflows second ∥₁ }
     {
         Append { first, second }
     }

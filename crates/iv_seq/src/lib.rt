@@ -6,9 +6,20 @@
 #![tactic(auto)]
 
 pub mod append;
+pub mod bind;
+pub mod follow;
 pub mod lazy;
+pub mod listed;
+pub mod optional;
+pub mod or_else;
 pub mod steps;
+pub mod take;
 
 pub use append::Append;
+pub use bind::Bind;
+pub use follow::Follow;
 pub use lazy::LazySeq;
+pub use listed::Listed;
+pub use or_else::OrElse;
 pub use steps::Steps;
+pub use take::Take;
