@@ -25,6 +25,10 @@ ReadsTake A = (n : ℕ) (t : SearchTree A) → moments_of (take n t) ≡ cut n (
 abbrev pub ReadsRest : (A : Type 0) → Type 0
 ReadsRest A = (t : SearchTree A) → moments_of (rest t) ≡ after (moments_of t)
 
+-- each list of moments is that of a tree
+abbrev pub ReadsAll : (A : Type 0) → Type 0
+ReadsAll A = (m : List (Moment A)) → (t : SearchTree A) × (moments_of t ≡ m)
+
 -- what is left costs what the whole cost, less the work before the first leaf
 abbrev pub RestCosts : (A : Type 0) → Type 0
 RestCosts A = (t : SearchTree A) (k : ℕ) → has_leaf t ≡ true → before (rest t) k ≡ before t (k + 1) - before t 1

@@ -8,6 +8,7 @@
 pub mod append;
 pub mod bind;
 pub mod follow;
+pub mod laws;
 pub mod lazy;
 pub mod listed;
 pub mod optional;
