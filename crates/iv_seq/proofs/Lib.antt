@@ -1,3 +1,4 @@
 pub mod Pulls
-pub mod Tests
+pub mod Meanings
 pub mod Readings
+pub mod Countdowns

@@ -1,7 +1,8 @@
 -- How pulls on parts make a pull on a whole.
-use Rattle.std.proofs.Common.{◌≡◌, ℕ, zero, suc, ◌+◌, ◌-◌, ◌<◌, ◌≤◌, List, [], ◌∷◌, ◌++◌, Option, None, Some, Result, Ok, Err, Bool, true, false, cond, refl, ap, sym, ◌∙◌, arith, length}
+use Rattle.std.proofs.Common.{◌≡◌, ℕ, zero, suc, ◌+◌, ◌-◌, ◌<◌, ◌≤◌, List, [], ◌∷◌, ◌++◌, Option, None, Some, Result, Ok, Err, Bool, true, false, cond, refl, ap, sym, ◌∙◌, arith, length, append_assoc}
+use Rattle.std.proofs.lemmas.List.{append-nil}
 use Rattle.iv_term.specs.declared.want.Want.{Want}
-use Rattle.iv_seq.specs.Moments.{Moment, begins, meets, works, work_before, bound, either, meets_any, within, lead_in, cut, ready}
+use Rattle.iv_seq.specs.Moments.{Moment, begins, meets, works, work_before, bound, either, meets_any, within, lead_in, cut, ready, leaves_in}
 use Rattle.iv_seq.specs.Pull.{Pulled, Advanced, came, Ended}
 
 -- work in front of a search stays in front of a longer one
@@ -263,3 +264,24 @@ advanced_same m s n n' t e a = rw e a
 -- no branch, no item and no sequence of items
 pub nothing_left : {A B : Type 0} (h : List (Moment B)) (o : Option A) (m : List (Moment A)) (f : A → List (Moment B)) → h ≡ [] → o ≡ None → m ≡ [] → h ++ bound (ready o ++ m) f ≡ []
 nothing_left h o m f k l e = rw (k, l, e) refl
+
+-- a leaf that came was the first one
+leaves-works : {A : Type 0} (n : ℕ) (m : List (Moment A)) → leaves_in (works n m) ≡ leaves_in m
+leaves-works zero m = refl
+leaves-works (suc n) m = leaves-works n m
+
+pub leaves_gave : {A : Type 0} (m : List (Moment A)) (s : ℕ) (x : A) (n : List (Moment A)) (t : ℕ) → Pulled m s (Ok (Some x)) n t → leaves_in m ≡ x ∷ leaves_in n
+leaves_gave m s x n t p = ap leaves_in p.order ∙ leaves-works p.passed (meets x ∷ n)
+
+pub leaves_ended : {A : Type 0} (m : List (Moment A)) (s : ℕ) (n : List (Moment A)) (t : ℕ) → Pulled m s (Ok None) n t → leaves_in m ≡ []
+leaves_ended m s n t p = ap leaves_in p.order ∙ (leaves-works p.passed n ∙ ap leaves_in p.ended)
+
+pub shorter_gave : {A : Type 0} (m : List (Moment A)) (s : ℕ) (x : A) (n : List (Moment A)) (t : ℕ) → Pulled m s (Ok (Some x)) n t → length n < length m
+shorter_gave m s x n t p = let e : length m ≡ p.passed + length (meets x ∷ n) = rw p.order (length-works p.passed (meets x ∷ n)) in omega (arith, e)
+
+-- one more leaf was found
+pub one_more : {A : Type 0} (f : List A) (m : List (Moment A)) (s : ℕ) (x : A) (n : List (Moment A)) (t : ℕ) (all : List A) → f ++ leaves_in m ≡ all → Pulled m s (Ok (Some x)) n t → (f ++ x ∷ []) ++ leaves_in n ≡ all
+one_more f m s x n t all e p = append_assoc f (x ∷ []) (leaves_in n) ∙ (ap (λ w. f ++ w) (sym (leaves_gave m s x n t p)) ∙ e)
+
+pub no_more : {A : Type 0} (f : List A) (m : List (Moment A)) (s : ℕ) (n : List (Moment A)) (t : ℕ) (all : List A) → f ++ leaves_in m ≡ all → Pulled m s (Ok None) n t → f ≡ all
+no_more f m s n t all e p = sym (append-nil f) ∙ (ap (λ w. f ++ w) (sym (leaves_ended m s n t p)) ∙ e)

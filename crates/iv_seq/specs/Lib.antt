@@ -2,3 +2,4 @@ pub mod SearchTree
 pub mod Moments
 pub mod Pull
 pub mod Laws
+pub mod Countdown

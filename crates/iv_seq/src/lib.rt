@@ -8,6 +8,7 @@
 pub mod append;
 pub mod bind;
 pub mod follow;
+pub mod gather;
 pub mod laws;
 pub mod lazy;
 pub mod listed;
@@ -19,8 +20,12 @@ pub mod take;
 pub use append::Append;
 pub use bind::Bind;
 pub use follow::Follow;
+pub use gather::gathered;
 pub use lazy::LazySeq;
 pub use listed::Listed;
 pub use or_else::OrElse;
 pub use steps::Steps;
 pub use take::Take;
+
+#[cfg(test)]
+mod tests;

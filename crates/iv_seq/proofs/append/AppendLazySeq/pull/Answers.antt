@@ -1,5 +1,5 @@
 use Rattle.iv_seq.proofs.Pulls.{front_gave, front_failed, ended_then}
-use Rattle.iv_seq.proofs.Tests.{handed_on, fitting_first, fitting_second, limited_first, limited_second}
+use Rattle.iv_seq.proofs.Meanings.{handed_on, fitting_first, fitting_second, limited_first, limited_second}
 use Rattle.iv_seq.proofs.append.AppendLazySeq.pull.Goals as goal
 
 pub returns-in_err-leaf-clause-pulled : goal.returns-in_err-leaf-clause-pulled

@@ -1,5 +1,5 @@
 use Rattle.iv_seq.proofs.Pulls.{bound_advanced, bound_failed, fetched, not_fetched, shorter}
-use Rattle.iv_seq.proofs.Tests.{handed_on, nothing_is, limited_fetched, limited_not_fetched}
+use Rattle.iv_seq.proofs.Meanings.{handed_on, nothing_is, limited_fetched, limited_not_fetched}
 use Rattle.iv_seq.proofs.bind.Bind.fetch.Goals as goal
 
 pub returns-in_err-self-clause-moved : goal.returns-in_err-self-clause-moved

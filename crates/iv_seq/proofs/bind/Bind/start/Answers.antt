@@ -1,4 +1,4 @@
-use Rattle.iv_seq.proofs.Tests.{handed_on, limited_call, limited_begun}
+use Rattle.iv_seq.proofs.Meanings.{handed_on, limited_call, limited_begun}
 use Rattle.iv_seq.proofs.bind.Bind.start.Goals as goal
 
 pub returns-in_err-branch-in-Some-clause-limited : goal.returns-in_err-branch-in-Some-clause-limited

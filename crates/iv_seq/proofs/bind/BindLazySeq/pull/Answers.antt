@@ -1,7 +1,7 @@
 use Rattle.std.proofs.Common.{Ok, ap, ◌∙◌}
 use Rattle.iv_seq.specs.Moments.{held}
 use Rattle.iv_seq.proofs.Pulls.{front_gave, front_failed, then_pulled, then_failed, then_over, further, branch_ended, advanced_same, nothing_left}
-use Rattle.iv_seq.proofs.Tests.{handed_on, limited_first, limited_after, limited_error, limited_ok}
+use Rattle.iv_seq.proofs.Meanings.{handed_on, limited_first, limited_after, limited_error, limited_ok}
 use Rattle.iv_seq.proofs.bind.BindLazySeq.pull.Goals as goal
 
 pub invariant_of-self : goal.invariant_of-self

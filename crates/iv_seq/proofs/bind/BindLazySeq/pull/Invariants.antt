@@ -1,7 +1,7 @@
 use Rattle.std.proofs.Common.{◌≡◌, ◌++◌, ◌⊎◌, IsSomeAnd, length}
 use Rattle.iv_seq.specs.Moments.{branching, ready, MeetsSome}
 use Rattle.iv_seq.specs.Pull.{Advanced}
-use Rattle.iv_seq.proofs.Tests.{Going, cause}
+use Rattle.iv_seq.proofs.Meanings.{Going, cause}
 use Rattle.iv_seq.proofs.bind.BindLazySeq.pull.Given as goal
 
 abbrev pub invariant-loop-leaf : goal.invariant-loop-leaf

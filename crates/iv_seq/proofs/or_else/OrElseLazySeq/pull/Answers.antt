@@ -1,6 +1,6 @@
 use Rattle.std.proofs.Common.{refl}
 use Rattle.iv_seq.proofs.Pulls.{either_gave, either_failed, either_ended, met_none, met_none_at_end}
-use Rattle.iv_seq.proofs.Tests.{handed_on, fitting_first, fitting_second, limited_choice, limited_chosen, limited_needed}
+use Rattle.iv_seq.proofs.Meanings.{handed_on, fitting_first, fitting_second, limited_choice, limited_chosen, limited_needed}
 use Rattle.iv_seq.proofs.or_else.OrElseLazySeq.pull.Goals as goal
 
 pub returns-in_err-leaf-clause-pulled : goal.returns-in_err-leaf-clause-pulled

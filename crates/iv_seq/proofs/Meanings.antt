@@ -173,3 +173,8 @@ limited_error T U P Q w l = record { number = λ e. l.number (same_error U T w N
 -- no Number came
 pub limited_ok : {T : Type 0} (P Q : Type 0) (y : T) → (∥ Q ∥₁ → ∥ P ∥₁) → Limited P (Ok y) Q
 limited_ok P Q y f = record { number = λ e. absurd (let bad : ⊥ = cc in bad); shrinks = f }
+
+-- the leaves found so far and those to come are all leaves, and the cause has not grown
+pub record Gathering {A : Type 0} (found_and_left all : List A) (now before : Type 0) : Type 0 where
+  pub leaves : found_and_left ≡ all
+  pub shrinks : ∥ now ∥₁ → ∥ before ∥₁
