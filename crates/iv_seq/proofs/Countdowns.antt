@@ -1,5 +1,5 @@
 -- A pull on the search of tests.
-use Rattle.std.proofs.Common.{◌≡◌, ℕ, zero, suc, ◌+◌, ◌-◌, ◌<◌, Option, None, Some, Result, Ok, refl, arith}
+use Rattle.std.proofs.Common.{◌≡◌, ℕ, zero, suc, ◌+◌, ◌-◌, ◌<◌, None, Some, Ok, refl, arith}
 use Rattle.iv_seq.specs.Countdown.{countdown}
 use Rattle.iv_seq.specs.Pull.{Pulled}
 

@@ -1,9 +1,9 @@
 -- How tests of items, and causes of Number, go from parts to a whole.
-use Rattle.std.proofs.Common.{◌≡◌, ◌⊎◌, inl, inr, Bool, true, false, List, [], ◌∷◌, ◌++◌, ℕ, zero, suc, Option, None, Some, Result, Ok, Err, refl, ap, is_some, IsErrAnd, IsSomeAnd}
+use Rattle.std.proofs.Common.{◌≡◌, ◌⊎◌, inl, inr, Bool, true, false, List, ◌++◌, ℕ, zero, suc, Option, None, Some, Result, Ok, Err, refl, ap, is_some, IsErrAnd, IsSomeAnd}
 use Rattle.std.proofs.Math.Logic.{∥∥₁_map, ∥∥₁_elim, ∥∥₁_prop}
 use Rattle.iv_term.specs.declared.want.Want.{Want}
 use Rattle.iv_term.specs.declared.want.Want.TheVariants.{Number}
-use Rattle.iv_seq.specs.Moments.{Moment, begins, meets, meets_any, works, ready, MeetsSome}
+use Rattle.iv_seq.specs.Moments.{Moment, meets_any, works, ready, MeetsSome}
 use Rattle.iv_seq.specs.Pull.{Within, Fitting, FitsItem, Limited, IsNeeded, Advanced, Pulled, came}
 
 -- what a `?` hands on is the error that came
@@ -130,7 +130,7 @@ pub limited_begun : {T : Type 0} (B B' C : Type 0) {A : Type 0} (P : A → Type 
 limited_begun B B' C P o x m y k s = record {
   number = λ e. absurd (let bad : ⊥ = cc in bad);
   shrinks = λ h. rw k (∥∥₁_elim h ∥∥₁_prop (λ v. elim v [
-    inl b ↦ ∥∥₁_map (s ∣ b ∣₁) (λ p. inr (inr (inl p)))
+    | inl b ↦ ∥∥₁_map (s ∣ b ∣₁) (λ p. inr (inr (inl p)))
     | inr w ↦ elim w [ inl c ↦ ∣ inr (inl c) ∣₁ | inr q ↦ ∣ inr (inr (inr q)) ∣₁ ]
   ]));
 }

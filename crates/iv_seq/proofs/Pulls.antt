@@ -147,7 +147,6 @@ cost-within k [] = refl
 cost-within k (begins ∷ m) = ap suc (cost-within k m)
 cost-within k (meets x ∷ m) = refl
 
-
 pub cut_gave : {A : Type 0} (b : Bool) (k : ℕ) (m : List (Moment A)) (s : ℕ) (x : A) (n : List (Moment A)) (t : ℕ) → 0 < k → Pulled m s (Ok (Some x)) n t → Pulled (cond b (within k m) (cut k m)) s (Ok (Some x)) (within (k - 1) n) t
 cut_gave b zero m s x n t h p = absurd (omega arith)
 cut_gave b (suc k) m s x n t h p =
@@ -183,7 +182,7 @@ cut_ended b (suc k) m s n t h p = cut_kept b k m s (Ok None) n t refl (ap (withi
 -- no leaf may come
 pub cut_closed : {A : Type 0} (b : Bool) (k : ℕ) (m : List (Moment A)) (s : ℕ) → k ≡ 0 → Pulled (cond b (within k m) (cut k m)) s (Ok None) (within k m) s
 cut_closed b zero m s h = elim b as (λ c. Pulled (cond c [] (lead_in m)) s (Ok None) [] s) [
-  true ↦ record { passed = 0; order = refl; ended = refl; counts = omega arith; cost = omega arith }
+  | true ↦ record { passed = 0; order = refl; ended = refl; counts = omega arith; cost = omega arith }
   | false ↦ record { passed = work_before m 1; order = lead-works m; ended = refl; counts = omega arith; cost = omega arith }
 ]
 cut_closed b (suc k) m s h = absurd (omega arith)

@@ -1,10 +1,10 @@
 -- A search tree and its moments are two readings of one search.
-use Rattle.std.proofs.Common.{◌≡◌, ℕ, zero, suc, ◌+◌, ◌-◌, ◌≤◌, Bool, true, false, cond, ◌||◌, List, [], ◌∷◌, ◌++◌, Option, None, Some, Result, Ok, Err, refl, ap, sym, ◌∙◌, arith, append_assoc, length, length-append}
+use Rattle.std.proofs.Common.{◌≡◌, ℕ, zero, suc, ◌+◌, ◌-◌, ◌≤◌, Bool, true, false, cond, ◌||◌, List, [], ◌∷◌, ◌++◌, Option, None, Some, Result, Ok, Err, refl, ap, sym, ◌∙◌, arith, append_assoc, length}
 use Rattle.std.proofs.lemmas.List.{append-nil}
 use Rattle.iv_term.specs.declared.want.Want.{Want}
 use Rattle.iv_seq.specs.SearchTree.{SearchTree, none, one, join, work, leaves, has_leaf, before, bind, or_else, take, lead, up_to, rest}
 use Rattle.iv_seq.specs.Moments.{Moment, begins, meets, moments_of, leaves_in, meets_any, work_before, bound, either, cut, lead_in, within, after, works}
-use Rattle.iv_seq.specs.Pull.{Pulled, came}
+use Rattle.iv_seq.specs.Pull.{Pulled}
 use Rattle.iv_seq.specs.Laws.{PullSays}
 
 -- appended searches

@@ -1,7 +1,7 @@
 -- What the laws say: a tree and its moments are two readings of one search, and a pull gives its first leaf.
-use Rattle.std.specs.Prelude.{◌≡◌, ℕ, ◌+◌, ◌-◌, ◌≤◌, Bool, true, false, List, [], ◌∷◌, Option, None, Some, Result, Ok, Err, length}
+use Rattle.std.specs.Prelude.{◌≡◌, ℕ, ◌+◌, ◌-◌, ◌≤◌, true, List, [], ◌∷◌, Option, None, Some, Result, Ok, Err}
 use Rattle.iv_term.specs.declared.want.Want.{Want}
-use Rattle.iv_seq.specs.SearchTree.{SearchTree, leaves, has_leaf, before, bind, or_else, take, rest, join}
+use Rattle.iv_seq.specs.SearchTree.{SearchTree, leaves, has_leaf, before, bind, or_else, take, rest}
 use Rattle.iv_seq.specs.Moments.{Moment, moments_of, leaves_in, work_before, bound, either, cut, after}
 use Rattle.iv_seq.specs.Pull.{Pulled}
 

@@ -87,10 +87,7 @@ impl<A: LazySeq, F: Follow<In = A::Item>> LazySeq for Bind<A, F> {
     ghost overflows = { λ s. IsSomeAnd s.branch (λ q. F.Out.overflows q)
         ⊎ (A.overflows s.first ⊎ MeetsSome (F.overflows s.function) (ready s.item ++ A.search s.first)) };
 
-    fn pull<L: Ledger>(
-        &mut self,
-        steps: &mut Steps<L>,
-    ) -> Mem<Option<<F::Out as LazySeq>::Item>> {
+    fn pull<L: Ledger>(&mut self, steps: &mut Steps<L>) -> Mem<Option<<F::Out as LazySeq>::Item>> {
         loop {
             if let Some(leaf) = self.branch.pull(steps)? {
                 return Ok(Some(leaf));

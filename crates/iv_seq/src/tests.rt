@@ -132,7 +132,10 @@ type Composed = Bind<Append<OrElse<Take<Countdown>, Countdown>, Countdown>, Belo
 fn one_in_another(rt: HostRuntime) -> Result<(), Fail> {
     let alloc = rt.alloc();
     let none = Take::new(Countdown { left: 5 }, 0);
-    let items = Append::new(OrElse::new(none, Countdown { left: 2 }), Countdown { left: 4 });
+    let items = Append::new(
+        OrElse::new(none, Countdown { left: 2 }),
+        Countdown { left: 4 },
+    );
     let found = leaves::<Composed, Brand>(alloc, Blank::new(1), Bind::new(items, Below {}))?;
     assert_eq!(rt; found.as_slice(), [0, 2, 1, 0, 1, 0, 0].as_slice());
     Ok(())

@@ -1,4 +1,4 @@
-use Rattle.std.proofs.Common.{◌≡◌, ◌++◌, length}
+use Rattle.std.proofs.Common.{◌++◌, length}
 use Rattle.iv_seq.specs.Moments.{leaves_in}
 use Rattle.iv_seq.proofs.Meanings.{Gathering}
 use Rattle.iv_seq.proofs.gather.gathered.Given as goal

@@ -1,6 +1,5 @@
-use Rattle.std.proofs.Common.{◌≡◌, ◌++◌, ◌⊎◌, IsSomeAnd, length}
-use Rattle.iv_seq.specs.Moments.{branching, ready, MeetsSome}
-use Rattle.iv_seq.specs.Pull.{Advanced}
+use Rattle.std.proofs.Common.{◌++◌, length}
+use Rattle.iv_seq.specs.Moments.{branching, ready}
 use Rattle.iv_seq.proofs.Meanings.{Going, cause}
 use Rattle.iv_seq.proofs.bind.BindLazySeq.pull.Given as goal
 
