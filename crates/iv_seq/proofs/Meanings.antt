@@ -1,9 +1,9 @@
 -- How tests of items, and causes of Number, go from parts to a whole.
-use Rattle.std.proofs.Common.{◌≡◌, ◌⊎◌, inl, inr, Bool, true, false, List, ◌++◌, ℕ, zero, suc, Option, None, Some, Result, Ok, Err, refl, ap, is_some, IsErrAnd, IsSomeAnd}
+use Rattle.std.proofs.Common.{◌≡◌, ◌⊎◌, inl, inr, Bool, true, false, List, ◌∷◌, ◌++◌, ℕ, zero, suc, Option, None, Some, Result, Ok, Err, refl, ap, is_some, IsErrAnd, IsSomeAnd}
 use Rattle.std.proofs.Math.Logic.{∥∥₁_map, ∥∥₁_elim, ∥∥₁_prop}
 use Rattle.iv_term.specs.declared.want.Want.{Want}
 use Rattle.iv_term.specs.declared.want.Want.TheVariants.{Number}
-use Rattle.iv_seq.specs.Moments.{Moment, meets_any, works, ready, MeetsSome}
+use Rattle.iv_seq.specs.Moments.{Moment, meets, meets_any, works, ready, MeetsSome}
 use Rattle.iv_seq.specs.Pull.{Within, Fitting, FitsItem, Limited, IsNeeded, Advanced, Pulled, came}
 
 -- what a `?` hands on is the error that came
@@ -178,3 +178,14 @@ limited_ok P Q y f = record { number = λ e. absurd (let bad : ⊥ = cc in bad);
 pub record Gathering {A : Type 0} (found_and_left all : List A) (now before : Type 0) : Type 0 where
   pub leaves : found_and_left ≡ all
   pub shrinks : ∥ now ∥₁ → ∥ before ∥₁
+
+-- leaves that are left were leaves before, and so was the one that came
+pub some_left : {A : Type 0} (P : A → Type 0) (m : List (Moment A)) (s : ℕ) (r : Result (Option A) Want) (n : List (Moment A)) (t : ℕ) → Pulled m s r n t → MeetsSome P n → MeetsSome P m
+some_left P m s (Ok (Some x)) n t p h = some_before P m p.passed (meets x ∷ n) p.order (inr h)
+some_left P m s (Ok None) n t p h = some_before P m p.passed n p.order h
+some_left P m s (Err e) n t p h = some_before P m p.passed n p.order h
+
+pub admitted_item : {A : Type 0} (P : A → Type 0) (m : List (Moment A)) (s : ℕ) (r : Result (Option A) Want) (n : List (Moment A)) (t : ℕ) → ((x : A) → ∥ MeetsSome (λ y. y ≡ x) m ∥₁ → ∥ P x ∥₁) → Pulled m s r n t → FitsItem P r
+admitted_item P m s (Ok (Some x)) n t f p = f x ∣ some_before (λ y. y ≡ x) m p.passed (meets x ∷ n) p.order (inl refl) ∣₁
+admitted_item P m s (Ok None) n t f p = tt
+admitted_item P m s (Err e) n t f p = tt

@@ -16,6 +16,7 @@ pub mod optional;
 pub mod or_else;
 pub mod steps;
 pub mod take;
+pub mod vouched;
 
 pub use append::Append;
 pub use bind::Bind;
@@ -26,6 +27,7 @@ pub use listed::Listed;
 pub use or_else::OrElse;
 pub use steps::Steps;
 pub use take::Take;
+pub use vouched::{Vouched, Witness};
 
 #[cfg(test)]
 mod tests;
