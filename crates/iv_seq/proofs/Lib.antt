@@ -1,0 +1,4 @@
+pub mod Pulls
+pub mod Meanings
+pub mod Readings
+pub mod Countdowns

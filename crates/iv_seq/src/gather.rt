@@ -1,0 +1,27 @@
+ghost use Rattle.std.specs.Prelude.{◌≡◌, Err, [], IfOk, OnOk};
+ghost use Rattle.iv_term.specs.declared.want.Want.TheVariants.{Number};
+ghost use Rattle.iv_seq.specs.Moments.{leaves_in};
+
+use crate::lazy::LazySeq;
+use crate::steps::Steps;
+use iv_term::Mem;
+use std::alloc::Global;
+use std::sync::ledger::Ledger;
+
+/// All leaves that are left of `sequence`, in order. Fails by `Memory` for want of memory, and by `Number`
+/// only where the search makes too large a number; the leaves that were pulled before are then lost.
+pub fn gathered<S: LazySeq, L: Ledger>(
+    alloc: Global,
+    sequence: &mut S,
+    steps: &mut Steps<L>,
+) -> Mem<Vec<S::Item>>
+    ensures leaves { IfOk result (λ found. found.items ≡ leaves_in (S.search sequence.old)) }
+    ensures over { OnOk result (S.search sequence.new ≡ []) }
+    ensures number { result ≡ Err Number → ∥ S.overflows sequence.old ∥₁ }
+{
+    let mut found = Vec::new(alloc);
+    while let Some(leaf) = sequence.pull(steps)? {
+        found.push(leaf)?;
+    }
+    Ok(found)
+}
