@@ -1,0 +1,7 @@
+pub mod Letter
+pub mod Form
+pub mod Start
+pub mod Spelling
+pub mod Token
+pub mod Place
+pub mod Cut
