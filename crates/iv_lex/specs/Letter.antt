@@ -3,7 +3,7 @@ use Rattle.std.specs.Prelude.{ℕ, zero, suc, ◌+◌, ◌-◌, List, [], ◌∷
 use Rattle.std.specs.Option.{option_map_or}
 use Rattle.std.specs.Char.{is_ascii_digit, is_ascii_alphabetic}
 use Rattle.std.specs.List.{filter_map, list_any}
-use Rattle.iv_symbol.specs.Symbol.{printed_for}
+use Rattle.iv_text.specs.Symbol.{printed_for}
 use Rattle.bstr.specs.Utf8.{decoded}
 use Rattle.unicode_ident.specs.Ident.{is_xid_start, is_xid_continue}
 use Rattle.iv_lex.specs.declared.letters.Letter.{Letter}

@@ -1,7 +1,7 @@
 -- The texts of tokens. Of this project, after the outer syntax of Isabelle.
 use Rattle.std.specs.Prelude.{ℕ, ◌-◌, List, [], ◌∷◌, ◌++◌, length, take, drop, Bool, true, false, not, Option, ◌&&◌, ◌||◌, ◌==◌, if◌then◌else◌, codes, find, unwrap_or}
 use Rattle.std.specs.Option.{option_map}
-use Rattle.iv_symbol.specs.Symbol.{Symbol, symbols}
+use Rattle.iv_text.specs.Symbol.{Symbol, symbols}
 use Rattle.iv_lex.specs.declared.letters.Letter.{Letter}
 use Rattle.iv_lex.specs.declared.nests.Nest.TheVariants as nest
 use Rattle.iv_lex.specs.declared.cutting.Kind.{Kind}

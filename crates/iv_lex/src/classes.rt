@@ -2,7 +2,7 @@ ghost use Rattle.std.specs.Prelude.{◌≡◌};
 ghost use Rattle.iv_lex.specs.Letter.{is_alpha, is_blank, is_char, is_continue, is_digit, is_sign, is_single, is_start, is_symbolic};
 
 use crate::letters::Letter;
-use iv_symbol::spelling;
+use iv_text::spelling;
 use unicode_ident::{is_xid_continue, is_xid_start};
 
 impl Letter {

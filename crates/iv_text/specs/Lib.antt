@@ -1,1 +1,1 @@
--- The definitions of this crate.
+pub mod Symbol

@@ -1,5 +1,5 @@
 ghost use Rattle.std.specs.Prelude.{◌≡◌, MatchOption};
-ghost use Rattle.iv_symbol.specs.Symbol.{character_named, printed_for};
+ghost use Rattle.iv_text.specs.Symbol.{character_named, printed_for};
 
 /// The character of the symbol `\<name>`, where `name` is what stands between `\<` and `>`. `None` exactly where
 /// no symbol with a character has this name.

@@ -1,5 +1,5 @@
 ghost use Rattle.std.specs.Prelude.{◌≡◌, Some, map};
-ghost use Rattle.iv_symbol.specs.Symbol.{character_named, printed_for, symbols};
+ghost use Rattle.iv_text.specs.Symbol.{character_named, printed_for, symbols};
 
 /// No two symbols of the table share a name or a character: each row is found by its name and by its character.
 pub fn rows_are_found()
