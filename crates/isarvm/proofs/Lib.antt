@@ -1,6 +1,6 @@
 pub mod CommandSteps
 pub mod PieceSteps
-pub mod TokenSteps
+pub mod TokenOrder
 pub mod PartSteps
 pub mod WordSteps
 pub mod NameSteps

@@ -1,7 +1,5 @@
 -- What several writers in a row append.
-use Rattle.std.proofs.Common.{◌≡◌, ◌<◌, ◌+◌, ◌∙◌, List, [], ℕ, ◌++◌, length, take, get_or, codes, encode_utf8_all, encode_utf8, Bool, true, false, Result, OnOk, append_assoc, append-nil, ap, sym, refl}
-use Rattle.std.proofs.lemmas.List.{take_more}
-use Rattle.std.proofs.lemmas.Str.{encodes-append}
+use Rattle.std.proofs.Common.{◌≡◌, ◌∙◌, List, [], ℕ, ◌++◌, codes, Bool, true, false, Result, OnOk, append_assoc, append-nil, ap, sym, refl}
 use Rattle.iv_term.specs.declared.term.Head.{Head}
 use Rattle.iv_term.specs.declared.term.Head.TheVariants.{Const, Free, Schematic, Bound}
 use Rattle.iv_term.specs.declared.term.Term.{Term}
@@ -10,12 +8,6 @@ use Rattle.iv_term.specs.declared.term.Terms.TheVariants.{Cons}
 use Rattle.iv_term.specs.declared.term.Term.TheBlock.{Spine}
 use Rattle.iv_term.specs.Term.{cons_is}
 use Rattle.isarvm.specs.Report.{enclosed, is_constant, is_arrow, variable_text, prop_text, sides_text, conclusion_text}
-
--- one more character in UTF-8
-pub char_encoded : (xs old new : List ℕ) (i c : ℕ) → i < length xs → c ≡ get_or xs i c → old ≡ encode_utf8_all (take i xs) → new ≡ old ++ encode_utf8 c → new ≡ encode_utf8_all (take (i + 1) xs)
-char_encoded xs old new i c inside is so_far more =
-    let cut = take_more xs i c inside in
-    more ∙ rw (cut, encodes-append, ← so_far, ← is, append-nil) refl
 
 -- where a text is to be written in parts: all is written if nothing is left of it
 pub nothing_left : (now all text : List ℕ) → text ≡ [] → now ++ text ≡ all → now ≡ all

@@ -8,21 +8,20 @@ use Rattle.std.proofs.Math.Seq.{take-add}
 use Rattle.std.proofs.lemmas.List.Elements.{All-push}
 use Rattle.std.proofs.lemmas.Grind.{common_steps}
 use Rattle.std.specs.List.{All, flat_map, position_or_len, onto_first}
-use Rattle.isarvm.specs.declared.tokens.Token.{Token}
-use Rattle.isarvm.specs.declared.tokens.Kind.TheVariants.{Bad}
-use Rattle.isarvm.specs.Token.{token_from}
+use Rattle.iv_lex.specs.declared.cutting.Token.{Token}
+use Rattle.isarvm.proofs.TokenOrder.{none}
 use Rattle.isarvm.specs.declared.pieces.Piece.{Piece}
 use Rattle.isarvm.specs.Piece.{pieces_of, run_of, IsRun, begins}
 
 -- the first piece has the tokens up to the next that begins one
-pub first_piece : (d : List ℕ) (t : Token) (ts : List Token) → pieces_of d (t ∷ ts) ≡ (t ∷ take (position_or_len (begins d) ts) ts) ∷ pieces_of d (drop (position_or_len (begins d) ts) ts)
-first_piece d t [] = refl
-first_piece d t (u ∷ us) = cases (begins d u) (first_piece d u us)
+pub first_piece : (t : Token) (ts : List Token) → pieces_of (t ∷ ts) ≡ (t ∷ take (position_or_len begins ts) ts) ∷ pieces_of (drop (position_or_len begins ts) ts)
+first_piece t [] = refl
+first_piece t (u ∷ us) = cases (begins u) (first_piece u us)
   where
     Goal : ℕ → List (List Token) → Type 0
-    Goal n pieces = pieces ≡ (t ∷ take n (u ∷ us)) ∷ pieces_of d (drop n (u ∷ us))
+    Goal n pieces = pieces ≡ (t ∷ take n (u ∷ us)) ∷ pieces_of (drop n (u ∷ us))
 
-    cases : (b : Bool) → pieces_of d (u ∷ us) ≡ (u ∷ take (position_or_len (begins d) us) us) ∷ pieces_of d (drop (position_or_len (begins d) us) us) → Goal (cond (not b) (1 + position_or_len (begins d) us) 0) (cond b ((t ∷ []) ∷ pieces_of d (u ∷ us)) (onto_first t (pieces_of d (u ∷ us))))
+    cases : (b : Bool) → pieces_of (u ∷ us) ≡ (u ∷ take (position_or_len begins us) us) ∷ pieces_of (drop (position_or_len begins us) us) → Goal (cond (not b) (1 + position_or_len begins us) 0) (cond b ((t ∷ []) ∷ pieces_of (u ∷ us)) (onto_first t (pieces_of (u ∷ us))))
     cases true h = refl
     cases false h = rw (one-add) (ap (onto_first t) h)
 
@@ -39,20 +38,19 @@ pub place_within : {X : Type 0} (p : X → Bool) (xs : List X) → position_or_l
 place_within p xs = prefix_len-le-length (λ x. not (p x)) xs
 
 -- the first piece of what is left, and then the rest behind it
-pub one_piece : (d : List ℕ) (tokens : List Token) (first n : ℕ) → first < length tokens → n ≡ position_or_len (begins d) (drop (first + 1) tokens) → pieces_of d (drop first tokens) ≡ take (1 + n) (drop first tokens) ∷ pieces_of d (drop (first + (1 + n)) tokens)
-one_piece d tokens first n l e =
-    let none : Token = token_from 0 0 Bad in
+pub one_piece : (tokens : List Token) (first n : ℕ) → first < length tokens → n ≡ position_or_len begins (drop (first + 1) tokens) → pieces_of (drop first tokens) ≡ take (1 + n) (drop first tokens) ∷ pieces_of (drop (first + (1 + n)) tokens)
+one_piece tokens first n l e =
     let t : Token = get_or tokens first none in
     let ts : List Token = drop (first + 1) tokens in
     let head : drop first tokens ≡ t ∷ ts = rw (add-one, drop-cons tokens first none) refl in
     let behind : drop n ts ≡ drop (first + (1 + n)) tokens = drop-drop n (first + 1) tokens ∙ ap (λ k. drop k tokens) (omega arith) in
     let front : take (1 + n) (t ∷ ts) ≡ t ∷ take n ts = rw one-add refl in
-    rw (head, front, ← behind, e) (first_piece d t ts)
+    rw (head, front, ← behind, e) (first_piece t ts)
 
 -- the pieces that were cut, with one more
-pub after_piece : (d : List ℕ) (tokens : List Token) (first n : ℕ) (found : List Piece) → first < length tokens → n ≡ position_or_len (begins d) (drop (first + 1) tokens) → map (run_of tokens) found ++ pieces_of d (drop first tokens) ≡ pieces_of d tokens → map (run_of tokens) (found ++ record { first = first; count = 1 + n } ∷ []) ++ pieces_of d (drop (first + (1 + n)) tokens) ≡ pieces_of d tokens
-after_piece d tokens first n found l e before =
-    rw (map-append, append_assoc) (ap (λ ps. map (run_of tokens) found ++ ps) (sym (one_piece d tokens first n l e)) ∙ before)
+pub after_piece : (tokens : List Token) (first n : ℕ) (found : List Piece) → first < length tokens → n ≡ position_or_len begins (drop (first + 1) tokens) → map (run_of tokens) found ++ pieces_of (drop first tokens) ≡ pieces_of tokens → map (run_of tokens) (found ++ record { first = first; count = 1 + n } ∷ []) ++ pieces_of (drop (first + (1 + n)) tokens) ≡ pieces_of tokens
+after_piece tokens first n found l e before =
+    rw (map-append, append_assoc) (ap (λ ps. map (run_of tokens) found ++ ps) (sym (one_piece tokens first n l e)) ∙ before)
 
 -- a run more that lies in the list
 pub runs_more : (tokens : List Token) (first n : ℕ) (found : List Piece) → first < length tokens → n ≤ length (drop (first + 1) tokens) → All (IsRun tokens) found → All (IsRun tokens) (found ++ record { first = first; count = 1 + n } ∷ [])

@@ -15,7 +15,8 @@ use Rattle.isarvm.specs.declared.refusal.Mode.{Mode}
 use Rattle.isarvm.specs.declared.refusal.Mode.TheVariants.{Start, Theory, Prove, Ended}
 use Rattle.isarvm.specs.declared.refusal.Refusal.{Refusal}
 use Rattle.isarvm.specs.declared.refusal.Refusal.TheVariants as cause
-use Rattle.isarvm.specs.Report.{enclosed, number_text, name_text, is_constant, is_arrow, variable_text, prop_text, sides_text, conclusion_text, theorem_head, mode_text, word_text, place_text, cause_text}
+use Rattle.isarvm.specs.Report.{enclosed, is_constant, is_arrow, variable_text, prop_text, sides_text, conclusion_text, theorem_head, mode_text, word_text, cause_text}
+use Rattle.iv_report.specs.Text.{number_text, name_text, place_text}
 use Rattle.isarvm.specs.Line.{is_plain, is_plain_head, is_plain_term, are_plain_terms, is_plain_name, is_plain_cause, TheoremsAreLines, RefusalsAreLines}
 
 -- both sides of a conjunction

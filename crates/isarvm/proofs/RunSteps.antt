@@ -1,16 +1,16 @@
 -- Reports of some theorems and commands, one after another.
-use Rattle.std.proofs.Common.{◌≡◌, ◌<◌, ◌≤◌, ◌+◌, ℕ, zero, suc, Bool, true, false, ◌&&◌, drop, List, [], ◌∷◌, ◌++◌, map, length, take, get_or, refl, sym, ap, ◌∙◌, subst, ◌⊎◌, inl, inr, append_assoc, append-nil, arith}
-use Rattle.std.specs.Prelude.{encode_utf8, encode_utf8_all}
-use Rattle.std.specs.Bool.{Decides}
-use Rattle.std.specs.Str.{bytes_eq}
-use Rattle.std.proofs.lemmas.Slice.Eq.{bytes_eq-Decides}
+use Rattle.std.proofs.Common.{◌≡◌, ◌<◌, ◌≤◌, ◌+◌, ℕ, zero, suc, Bool, true, false, ◌&&◌, ◌==◌, if◌then◌else◌, drop, List, [], ◌∷◌, ◌++◌, map, length, take, get_or, refl, sym, ap, ◌∙◌, subst, ◌⊎◌, inl, inr, append_assoc, append-nil, arith}
+use Rattle.std.specs.Prelude.{Option, Some, encode_utf8, encode_utf8_all}
+use Rattle.std.proofs.lemmas.Bool.Decides.{nat_tests}
 use Rattle.std.specs.List.{flat_map}
 use Rattle.std.proofs.lemmas.List.{take_more, drop_all, take-append-drop}
 use Rattle.iv_kernel.specs.declared.theorems.NamedThm.{NamedThm}
 use Rattle.isarvm.specs.Sound.{seen}
 use Rattle.isarvm.specs.declared.commands.Command.{Command}
 use Rattle.isarvm.specs.Machine.{Machine, executed, next}
-use Rattle.isarvm.specs.Run.{line_of_finished, lines_of, report_from, state_behind, all_accepted, is_accepted, IsFrontOf}
+use Rattle.iv_words.specs.declared.words.Task.{Task}
+use Rattle.isarvm.specs.Report.{count_line}
+use Rattle.isarvm.specs.Run.{is_ended, counts_behind, line_of_finished, lines_of, report_from, state_behind, all_accepted, is_accepted, refusals_in, IsFrontOf}
 use Rattle.isarvm.proofs.Derivable.{finished-grows}
 use Rattle.isarvm.proofs.StatementSteps.{drop-earlier}
 
@@ -119,18 +119,42 @@ front-stopped m n cs i c whole lt is e (inr f) =
 pub front-whole : {X : Type 0} (xs ys : List X) → xs ≡ ys → IsFrontOf xs ys
 front-whole xs ys e = ([], sym e ∙ sym (append-nil xs))
 
-one-item : {X : Type 0} (xs : List X) (x : X) → 1 ≤ length xs → length xs < 2 → x ≡ get_or xs 0 x → xs ≡ x ∷ []
-one-item [] x some few is = absurd (omega arith)
-one-item (y ∷ []) x some few is = ap (λ z. z ∷ []) (sym is)
-one-item (y ∷ z ∷ zs) x some few is = absurd (omega arith)
+-- one command more, and whether it is refused
+pub refusals-more : (m k : Machine) (cs : List Command) (i : ℕ) (c : Command) (b : Bool) (n one whole : ℕ) → i < length cs → c ≡ get_or cs i c
+    → b ≡ is_accepted (executed c m) → one ≡ (if b then 0 else 1) → n + refusals_in m (drop i cs) ≡ whole → k ≡ next c m
+    → (n + one) + refusals_in k (drop (i + 1) cs) ≡ whole
+unfolding refusals_in
+refusals-more m k cs i c b n one whole lt is test e h state =
+    let at : drop i cs ≡ c ∷ drop (i + 1) cs = drop-earlier cs c (i + 1) i (omega arith) refl is in
+    let step : refusals_in m (drop i cs) ≡ (if b then 0 else 1) + refusals_in (next c m) (drop (i + 1) cs) = rw (at, test) refl in
+    rw (state, e) (omega (arith, step, h))
 
--- the only word is `check` exactly where its bytes are
-pub only-word : {X : Type 0} (bytes : X → List ℕ) (xs : List X) (x : X) (r : Bool) (text word : List ℕ) → 1 ≤ length xs → length xs < 2 → x ≡ get_or xs 0 x
-    → text ≡ bytes x → r ≡ bytes_eq text word → Decides r (map bytes xs ≡ word ∷ [])
-only-word bytes xs x r text word some few is e d =
-    let one : xs ≡ x ∷ [] = one-item xs x some few is in
-    let p : map bytes xs ≡ text ∷ [] = ap (map bytes) one ∙ ap (λ t. t ∷ []) (sym e) in
-    let q = bytes_eq-Decides text word in (
-      λ t. p ∙ ap (λ t. t ∷ []) (q.0 (sym d ∙ t)),
-      λ h. let same : text ∷ [] ≡ word ∷ [] = sym p ∙ h in let eq : text ≡ word = cc in d ∙ q.1 eq,
-    )
+pub refusals-end : (m : Machine) (cs : List Command) (i n whole : ℕ) → length cs ≤ i → n + refusals_in m (drop i cs) ≡ whole → n ≡ whole
+unfolding refusals_in
+refusals-end m cs i n whole le h = let none : drop i cs ≡ [] = drop_all i cs le in omega (arith, rw none at h)
+
+-- none is refused exactly where all are accepted
+pub none-refused : (m : Machine) (cs : List Command) → (refusals_in m cs == 0) ≡ all_accepted m cs
+unfolding refusals_in all_accepted
+none-refused m [] = refl
+none-refused m (c ∷ cs) = cases (is_accepted (executed c m)) (none-refused (next c m) cs)
+  where
+    cases : (b : Bool) → (refusals_in (next c m) cs == 0) ≡ all_accepted (next c m) cs
+        → ((if b then 0 else 1) + refusals_in (next c m) cs == 0) ≡ (b && all_accepted (next c m) cs)
+    cases true h = ap (λ n. n == 0) (omega arith) ∙ h
+    cases false h = grind (arith, nat_tests)
+
+-- the line of counts of a run that is over
+pub counts_are : (m k : Machine) (cs : List Command) (n : ℕ) (bytes : List ℕ) → bytes ≡ encode_utf8_all (count_line (length k.finished) n (is_ended k.stage))
+    → k ≡ state_behind m cs → n ≡ refusals_in m cs → bytes ≡ encode_utf8_all (counts_behind m cs)
+unfolding counts_behind
+counts_are m k cs n bytes e state count = e ∙ ap (λ j. encode_utf8_all (count_line (length j.finished) n (is_ended j.stage))) state
+    ∙ ap (λ j. encode_utf8_all (count_line (length (state_behind m cs).finished) j (is_ended (state_behind m cs).stage))) count
+
+-- a front part that was told
+pub front_cut : (w bytes text : List ℕ) (n : ℕ) → bytes ≡ text → IsFrontOf (take n bytes) text
+front_cut w bytes text n e = (drop n bytes, sym e ∙ sym (take-append-drop n bytes))
+
+-- a task that was asked for is the one that was asked for
+pub of_task : (P : Task → Type 0) (a b : Task) (asked : Option Task) → asked ≡ Some a → asked ≡ Some b → P a → P b
+of_task P a b asked d e h = let same : Some a ≡ Some b = sym d ∙ e in let eq : a ≡ b = cc in subst P eq h

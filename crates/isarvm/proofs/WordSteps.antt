@@ -2,8 +2,8 @@
 use Rattle.std.proofs.Common.{◌≡◌, ℕ, ◌+◌, suc, Bool, true, false, cond, not, List, [], ◌∷◌, take, drop, refl, ap, sym, ◌∙◌, arith, one-add}
 use Rattle.std.specs.Prelude.{filter}
 use Rattle.std.specs.List.{prefix_len, position_or_len, slice_split, onto_first}
-use Rattle.isarvm.specs.Byte.{is_blank}
-use Rattle.isarvm.specs.Reading.{has_bytes, words_of, word_before}
+use Rattle.isarvm.specs.Letter.{is_blank}
+use Rattle.isarvm.specs.Reading.{has_letters, words_of, word_before}
 
 -- blanks before a text change no word
 pub words_behind_blanks : (text : List ℕ) → words_of text ≡ words_of (drop (prefix_len is_blank text) text)
@@ -24,11 +24,11 @@ first_run (b ∷ bs) = cases (is_blank b) (first_run bs)
     cases false h = rw (h, one-add) refl
 
 -- the words behind the first part
-pub later_runs : (text : List ℕ) → filter has_bytes (drop 1 (slice_split is_blank text)) ≡ words_of (drop (position_or_len is_blank text) text)
+pub later_runs : (text : List ℕ) → filter has_letters (drop 1 (slice_split is_blank text)) ≡ words_of (drop (position_or_len is_blank text) text)
 later_runs [] = refl
 later_runs (b ∷ bs) = cases (is_blank b) refl (first_run bs) (later_runs bs)
   where
-    cases : (v : Bool) → is_blank b ≡ v → slice_split is_blank bs ≡ take (position_or_len is_blank bs) bs ∷ drop 1 (slice_split is_blank bs) → filter has_bytes (drop 1 (slice_split is_blank bs)) ≡ words_of (drop (position_or_len is_blank bs) bs) → filter has_bytes (drop 1 (cond v ([] ∷ slice_split is_blank bs) (onto_first b (slice_split is_blank bs)))) ≡ words_of (drop (cond (not v) (1 + position_or_len is_blank bs) 0) (b ∷ bs))
+    cases : (v : Bool) → is_blank b ≡ v → slice_split is_blank bs ≡ take (position_or_len is_blank bs) bs ∷ drop 1 (slice_split is_blank bs) → filter has_letters (drop 1 (slice_split is_blank bs)) ≡ words_of (drop (position_or_len is_blank bs) bs) → filter has_letters (drop 1 (cond v ([] ∷ slice_split is_blank bs) (onto_first b (slice_split is_blank bs)))) ≡ words_of (drop (cond (not v) (1 + position_or_len is_blank bs) 0) (b ∷ bs))
     cases true e h k = rw e refl
     cases false e h k = rw (h, one-add) k
 
@@ -49,12 +49,12 @@ word_at_front (b ∷ bs) h = cases (is_blank b) h refl (first_run (b ∷ bs)) (l
     Words : ℕ → List (List ℕ) → Type 0
     Words n words = words ≡ word_before (take n (b ∷ bs)) (words_of (drop n (b ∷ bs)))
 
-    cases : (v : Bool) → cond v (1 + prefix_len is_blank bs) 0 ≡ 0 → is_blank b ≡ v → slice_split is_blank (b ∷ bs) ≡ take (position_or_len is_blank (b ∷ bs)) (b ∷ bs) ∷ drop 1 (slice_split is_blank (b ∷ bs)) → filter has_bytes (drop 1 (slice_split is_blank (b ∷ bs))) ≡ words_of (drop (position_or_len is_blank (b ∷ bs)) (b ∷ bs)) → Words (position_or_len is_blank (b ∷ bs)) (words_of (b ∷ bs))
+    cases : (v : Bool) → cond v (1 + prefix_len is_blank bs) 0 ≡ 0 → is_blank b ≡ v → slice_split is_blank (b ∷ bs) ≡ take (position_or_len is_blank (b ∷ bs)) (b ∷ bs) ∷ drop 1 (slice_split is_blank (b ∷ bs)) → filter has_letters (drop 1 (slice_split is_blank (b ∷ bs))) ≡ words_of (drop (position_or_len is_blank (b ∷ bs)) (b ∷ bs)) → Words (position_or_len is_blank (b ∷ bs)) (words_of (b ∷ bs))
     cases true z e r k = absurd (omega (arith, z))
     cases false z e r k =
         let n : position_or_len is_blank (b ∷ bs) ≡ suc (position_or_len is_blank bs) = rw (e, one-add) refl in
-        ap (filter has_bytes) r
-        ∙ ap (λ m. filter has_bytes (take m (b ∷ bs) ∷ drop 1 (slice_split is_blank (b ∷ bs)))) n
+        ap (filter has_letters) r
+        ∙ ap (λ m. filter has_letters (take m (b ∷ bs) ∷ drop 1 (slice_split is_blank (b ∷ bs)))) n
         ∙ ap (λ ws. (b ∷ take (position_or_len is_blank bs) bs) ∷ ws) k
         ∙ ap (λ m. word_before (take m (b ∷ bs)) (words_of (drop (position_or_len is_blank (b ∷ bs)) (b ∷ bs)))) (sym n)
 

@@ -1,6 +1,5 @@
 -- How a run is answered. Of this project.
-use Rattle.std.specs.Prelude.{◌≡◌, ℕ, Bool, List, [], ◌∷◌, map, codes, String, string_bytes, if◌then◌else◌}
-use Rattle.std.specs.declared.alloc.Global.{Global}
+use Rattle.std.specs.Prelude.{ℕ, Bool, if◌then◌else◌}
 use Rattle.isarvm.specs.declared.run.Stop.{Stop}
 use Rattle.isarvm.specs.declared.run.Stop.TheVariants as stop
 use Rattle.isarvm.specs.declared.status.Status.{Status}
@@ -26,10 +25,6 @@ without_memory other = other
 -- the answer of a run: whether all commands were accepted and the document has ended
 abbrev pub answer_of : Bool → Status
 answer_of b = if b then Done else Refused
-
--- the words of a command line: the one word `check`
-abbrev pub IsCheck : List (String Global) → Type 0
-IsCheck words = map string_bytes words ≡ codes "check" ∷ []
 
 -- a run that read the document
 abbrev pub IsRun : Status → Type 0

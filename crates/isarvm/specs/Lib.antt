@@ -1,7 +1,5 @@
-pub mod Byte
-pub mod Token
+pub mod Letter
 pub mod Piece
-pub mod Place
 pub mod Reading
 pub mod Command
 pub mod Refusal

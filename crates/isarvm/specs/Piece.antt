@@ -2,27 +2,30 @@
 use Rattle.std.specs.Prelude.{◌≤◌, ◌<◌, ℕ, ◌+◌, Bool, true, false, List, [], ◌∷◌, length, take, drop, if◌then◌else◌, codes}
 use Rattle.std.specs.List.{onto_first}
 use Rattle.std.specs.Str.{bytes_eq}
-use Rattle.isarvm.specs.declared.tokens.Kind.{Kind}
-use Rattle.isarvm.specs.declared.tokens.Kind.TheVariants as kind
-use Rattle.isarvm.specs.declared.tokens.Token.{Token}
+use Rattle.iv_lex.specs.declared.cutting.Kind.{Kind}
+use Rattle.iv_lex.specs.declared.cutting.Kind.TheVariants as kind
+use Rattle.iv_lex.specs.declared.cutting.Token.{Token}
 use Rattle.isarvm.specs.declared.pieces.Word.{Word}
 use Rattle.isarvm.specs.declared.pieces.Word.TheVariants.{Lemma, By, Oops, End, Unknown}
 use Rattle.isarvm.specs.declared.pieces.Piece.{Piece}
-use Rattle.isarvm.specs.Token.{spelt}
 
--- the command word of these letters
+-- the command word of this text
 abbrev pub word_spelt : List ℕ → Word
-word_spelt bs =
-    if bytes_eq bs (codes "lemma") then Lemma else (if bytes_eq bs (codes "by") then By else (if bytes_eq bs (codes "oops") then Oops else (if bytes_eq bs (codes "end") then End else Unknown)))
+word_spelt text =
+    if bytes_eq text (codes "lemma") then Lemma
+    else if bytes_eq text (codes "by") then By
+    else if bytes_eq text (codes "oops") then Oops
+    else if bytes_eq text (codes "end") then End
+    else Unknown
 
--- the command word that a token of this kind and these bytes is
+-- the command word that a token of this kind and this text is
 abbrev pub word_as : Kind → List ℕ → Word
-word_as kind.Word bs = word_spelt bs
-word_as _ bs = Unknown
+word_as kind.Ident text = word_spelt text
+word_as _ text = Unknown
 
 -- the command word that a token is
-abbrev pub word_of : List ℕ → Token → Word
-word_of document t = word_as t.kind (spelt document t)
+abbrev pub word_of : Token → Word
+word_of t = word_as t.kind t.text
 
 -- whether it is a command word
 abbrev pub is_command : Word → Bool
@@ -30,19 +33,18 @@ is_command Unknown = false
 is_command _ = true
 
 -- whether a piece begins at a token
-abbrev pub begins : List ℕ → Token → Bool
-begins document t = is_command (word_of document t)
+abbrev pub begins : Token → Bool
+begins t = is_command (word_of t)
 
 -- whether a piece begins at the next token
-abbrev pub begins_next : List ℕ → List Token → Bool
-begins_next document [] = false
-begins_next document (t ∷ ts) = begins document t
+abbrev pub begins_next : List Token → Bool
+begins_next [] = false
+begins_next (t ∷ ts) = begins t
 
 -- the pieces of a list of tokens: a token before one that begins a piece is a piece of its own, and any other joins the piece after it
-abbrev pub pieces_of : List ℕ → List Token → List (List Token)
-pieces_of document [] = []
-pieces_of document (t ∷ ts) =
-    if begins_next document ts then (t ∷ []) ∷ pieces_of document ts else onto_first t (pieces_of document ts)
+abbrev pub pieces_of : List Token → List (List Token)
+pieces_of [] = []
+pieces_of (t ∷ ts) = if begins_next ts then (t ∷ []) ∷ pieces_of ts else onto_first t (pieces_of ts)
 
 -- the tokens of a run
 abbrev pub run_of : List Token → Piece → List Token

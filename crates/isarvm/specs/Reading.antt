@@ -1,24 +1,24 @@
 -- How a quoted proposition reads: `PROP NAME`, one or more times, joined by `==>`. Of this project.
-use Rattle.std.specs.Prelude.{ℕ, ◌-◌, Bool, true, false, zero, suc, List, [], ◌∷◌, length, take, drop, filter, if◌then◌else◌, ◌&&◌, not, nat_eq, codes, Option, Some, None}
+use Rattle.std.specs.Prelude.{ℕ, Bool, true, false, zero, suc, List, [], ◌∷◌, filter, if◌then◌else◌, ◌&&◌, not, nat_eq, codes, Option, Some, None}
 use Rattle.std.specs.List.{onto_first, slice_split, starts_with, list_all}
 use Rattle.std.specs.Str.{bytes_eq}
-use Rattle.isarvm.specs.Byte.{is_blank, is_letter, is_word_byte}
+use Rattle.isarvm.specs.Letter.{is_blank, is_letter, is_word_letter}
 
 -- whether a word is not empty
-abbrev pub has_bytes : List ℕ → Bool
-has_bytes [] = false
-has_bytes (b ∷ bs) = true
+abbrev pub has_letters : List ℕ → Bool
+has_letters [] = false
+has_letters (b ∷ bs) = true
 
 -- the words of a text: what stands between its blanks, and is not empty
 abbrev pub words_of : List ℕ → List (List ℕ)
-words_of text = filter has_bytes (slice_split is_blank text)
+words_of text = filter has_letters (slice_split is_blank text)
 
 -- a first word and the words behind it, or no word where the first is empty
 abbrev pub word_before : List ℕ → List (List ℕ) → List (List ℕ)
 word_before [] words = []
 word_before (b ∷ bs) words = (b ∷ bs) ∷ words
 
--- the parts of a text that is cut at each `==>`; the first `inside` bytes belong to the arrow before
+-- the parts of a text that is cut at each `==>`; the first `inside` letters belong to the arrow before
 abbrev pub parts_from : ℕ → List ℕ → List (List ℕ)
 parts_from inside [] = [] ∷ []
 parts_from (suc inside) (b ∷ bs) = parts_from inside bs
@@ -37,7 +37,7 @@ parts_after (Some rest) = parts_of rest
 -- whether a text is one word: a letter, and then letters, digits and `_`
 abbrev pub is_word : List ℕ → Bool
 is_word [] = false
-is_word (b ∷ bs) = is_letter b && list_all is_word_byte bs
+is_word (b ∷ bs) = is_letter b && list_all is_word_letter bs
 
 -- whether a text may name a proposition: a word other than `PROP`
 abbrev pub is_name : List ℕ → Bool
@@ -66,7 +66,3 @@ names_in (part ∷ parts) = name_before (name_in part) (names_in parts)
 -- how a text reads: the names of its parts, in order, or nothing where it is no proposition
 abbrev pub reading_of : List ℕ → Option (List (List ℕ))
 reading_of text = names_in (parts_of text)
-
--- what stands between the quotes of a quoted text
-abbrev pub unquoted : List ℕ → List ℕ
-unquoted text = take (length text - 2) (drop 1 text)

@@ -1,13 +1,13 @@
 -- The texts of reports. Of this project.
-use Rattle.std.specs.Prelude.{ℕ, Bool, true, false, List, [], ◌∷◌, ◌++◌, ◌==◌, if◌then◌else◌, codes, Option, Some, None}
+use Rattle.std.specs.Prelude.{ℕ, Bool, true, false, List, [], ◌∷◌, ◌++◌, if◌then◌else◌, codes, Option, Some, None}
 use Rattle.std.specs.Fmt.{decimal}
-use Rattle.iv_term.specs.declared.name.Name.{Name}
 use Rattle.iv_term.specs.declared.term.Head.{Head}
 use Rattle.iv_term.specs.declared.term.Head.TheVariants.{Const, Free, Schematic}
 use Rattle.iv_term.specs.declared.term.Term.{Term}
 use Rattle.iv_term.specs.declared.term.Terms.{Terms}
 use Rattle.iv_term.specs.declared.term.Term.TheBlock.{Spine, Nil}
 use Rattle.iv_term.specs.Term.{lam, tm_cons}
+use Rattle.iv_report.specs.Text.{only_if, name_text, place_text}
 use Rattle.isarvm.specs.declared.pieces.Word.{Word}
 use Rattle.isarvm.specs.declared.pieces.Word.TheVariants as word
 use Rattle.isarvm.specs.declared.refusal.Mode.{Mode}
@@ -19,21 +19,9 @@ use Rattle.isarvm.specs.declared.refusal.Refusal.TheVariants as cause
 abbrev pub line_end : List ℕ
 line_end = 10 ∷ []
 
--- a text where a condition holds, and else nothing
-abbrev pub only_if : Bool → List ℕ → List ℕ
-only_if b text = if b then text else []
-
 -- a text, in parentheses where a condition holds
 abbrev pub enclosed : Bool → List ℕ → List ℕ
 enclosed b text = only_if b (codes "(") ++ text ++ only_if b (codes ")")
-
--- what is printed of a name's number: a dot and its decimals, and nothing for 0
-abbrev pub number_text : ℕ → List ℕ
-number_text n = if n == 0 then [] else codes "." ++ decimal n
-
--- how a name is printed
-abbrev pub name_text : Name → List ℕ
-name_text x = x.text ++ number_text x.number
 
 -- whether a head is a constant, which in a proposition is the implication
 abbrev pub is_constant : Head → Bool
@@ -91,10 +79,6 @@ word_text word.Oops = codes "oops"
 word_text word.End = codes "end"
 word_text word.Unknown = codes "?"
 
--- a line and a column in decimals
-abbrev pub place_text : ℕ → ℕ → List ℕ
-place_text line column = decimal line ++ codes ":" ++ decimal column
-
 -- why a command at this line and column was refused
 abbrev pub cause_text : ℕ → ℕ → Refusal → List ℕ
 cause_text line column (cause.Syntax at) = codes "syntax " ++ place_text line column
@@ -108,3 +92,8 @@ cause_text line column cause.Number = []
 abbrev pub refusal_line : ℕ → ℕ → Word → Refusal → List ℕ
 refusal_line line column word refusal =
     codes "refused " ++ place_text line column ++ codes " " ++ word_text word ++ codes " " ++ cause_text line column refusal ++ line_end
+
+-- the line that counts theorems and refusals, and says whether the document has ended
+abbrev pub count_line : ℕ → ℕ → Bool → List ℕ
+count_line theorems refusals ended =
+    codes "theorems " ++ decimal theorems ++ codes " refusals " ++ decimal refusals ++ codes " " ++ (if ended then codes "ended" else codes "open") ++ line_end

@@ -1,12 +1,14 @@
 -- The run of a document and its report. Of this project.
-use Rattle.std.specs.Prelude.{◌≡◌, ℕ, Bool, true, false, ◌&&◌, List, [], ◌∷◌, ◌++◌, length, drop, encode_utf8_all}
+use Rattle.std.specs.Prelude.{◌≡◌, ℕ, ◌+◌, Bool, true, false, ◌&&◌, if◌then◌else◌, List, [], ◌∷◌, ◌++◌, length, drop, encode_utf8_all}
 use Rattle.std.specs.List.{flat_map}
 use Rattle.iv_term.specs.Derivation.{Derivable}
 use Rattle.isarvm.specs.declared.commands.Command.{Command}
 use Rattle.isarvm.specs.Command.{commands_of}
-use Rattle.isarvm.specs.Place.{line_of, column_of}
+use Rattle.iv_report.specs.Place.{line_of, column_of}
 use Rattle.isarvm.specs.Machine.{Finished, Machine, Stage, Ended, Outcome, Refused, Accepted, start, executed, next}
-use Rattle.isarvm.specs.Report.{theorem_line, refusal_line}
+use Rattle.isarvm.specs.Report.{theorem_line, refusal_line, count_line}
+use Rattle.iv_words.specs.declared.words.Task.{Task}
+use Rattle.iv_words.specs.declared.words.Task.TheVariants.{Check, Count}
 
 -- the line of a finished theorem
 abbrev pub line_of_finished : Finished → List ℕ
@@ -40,9 +42,23 @@ abbrev pub is_ended : Stage → Bool
 is_ended Ended = true
 is_ended s = false
 
+-- how many of some commands are refused, executed in order
+unfoldable pub refusals_in : Machine → List Command → ℕ
+refusals_in m [] = 0
+refusals_in m (c ∷ cs) = (if is_accepted (executed c m) then 0 else 1) + refusals_in (next c m) cs
+
+-- the line of counts behind some commands
+unfoldable pub counts_behind : Machine → List Command → List ℕ
+counts_behind m cs = count_line (length (state_behind m cs).finished) (refusals_in m cs) (is_ended (state_behind m cs).stage)
+
+-- what a task reports of some commands
+abbrev pub reported : Task → List ℕ → Machine → List Command → List ℕ
+reported Check document m cs = report_from document m cs
+reported Count document m cs = counts_behind m cs
+
 -- the report of a document, as bytes
-abbrev pub report_of : List ℕ → List ℕ
-report_of document = encode_utf8_all (report_from document start (commands_of document))
+abbrev pub report_of : Task → List ℕ → List ℕ
+report_of task document = encode_utf8_all (reported task document start (commands_of document))
 
 -- the theorems that a document proves, in order
 abbrev pub theorems_of : List ℕ → List Finished

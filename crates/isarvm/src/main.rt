@@ -1,20 +1,19 @@
 //! A checker of proof documents.
 //!
 //! `isarvm check` reads a document from standard input and writes a line for each theorem that it proves and
-//! for each command that is refused. What it promises stands on [`run::run_isar`], which `main` calls over
+//! for each command that is refused; `isarvm count` writes one line that counts them. What it promises stands on [`run::run_isar`], which `main` calls over
 //! standard input and output.
 #![tactic(auto)]
 
-pub mod bytes;
 pub mod claim;
 pub mod commands;
 pub mod law;
+pub mod letters;
 pub mod lines;
 pub mod machine;
 pub mod names;
 pub mod parts;
 pub mod pieces;
-pub mod places;
 pub mod prove;
 pub mod reading;
 pub mod refusal;
@@ -28,8 +27,6 @@ pub mod statement;
 pub mod status;
 #[cfg(test)]
 mod tests;
-pub mod text;
-pub mod tokens;
 
 use crate::run::run_isar;
 use crate::status::Status;
@@ -72,7 +69,7 @@ fn main(rt: HostRuntime) -> ExitCode {
         Err(status) => status,
     };
     if status == Status::Usage {
-        let _ = eprintln!(rt; "usage: isarvm check");
+        let _ = eprintln!(rt; "usage: isarvm check|count");
     }
     ExitCode::from(status.code())
 }

@@ -1,12 +1,13 @@
 ghost use Rattle.std.specs.Prelude.{◌≡◌, ◌≤◌, ◌<◌, ◌+◌, length, map, position, IfOk, IfErr};
 ghost use Rattle.std.specs.List.{All, AllPairs, flat_map, position_or_len};
 ghost use Rattle.iv_term.specs.declared.want.Want.TheVariants.{Memory};
-ghost use Rattle.isarvm.specs.Token.{IsWithin};
+ghost use Rattle.std.specs.Str.{bytes_eq};
 ghost use Rattle.isarvm.specs.Piece.{word_spelt, word_of, is_command, begins, pieces_of, run_of, IsRunBefore, IsRun};
 
-use crate::bytes::rest_from;
-use crate::tokens::{Kind, LIMIT, Token, spelt};
-use iv_term::Mem;
+use crate::letters::rest_from;
+use iv_lex::{Kind, Token};
+use iv_report::LIMIT;
+use iv_term::{Mem, Text};
 use std::alloc::Global;
 
 /// The command word at the head of a piece.
@@ -34,17 +35,17 @@ pub struct Piece {
 }
 
 impl Word {
-    /// The command word of these letters.
-    pub fn spelt(text: &[u8]) -> Word
+    /// The command word of this text.
+    pub fn spelt(text: &Text) -> Word
         ensures { result ≡ word_spelt text.now }
     {
-        if text == b"lemma".as_slice() {
+        if text.is_chars(&['l', 'e', 'm', 'm', 'a']) {
             Word::Lemma
-        } else if text == b"by".as_slice() {
+        } else if text.is_chars(&['b', 'y']) {
             Word::By
-        } else if text == b"oops".as_slice() {
+        } else if text.is_chars(&['o', 'o', 'p', 's']) {
             Word::Oops
-        } else if text == b"end".as_slice() {
+        } else if text.is_chars(&['e', 'n', 'd']) {
             Word::End
         } else {
             Word::Unknown
@@ -52,12 +53,11 @@ impl Word {
     }
 
     /// The command word that a token is.
-    pub fn of(document: &[u8], token: Token) -> Word
-        requires { IsWithin document.now token }
-        ensures { result ≡ word_of document.now token }
+    pub fn of(token: &Token) -> Word
+        ensures { result ≡ word_of token.now }
     {
         match token.kind {
-            Kind::Word => Word::spelt(spelt(document, token)),
+            Kind::Ident => Word::spelt(&token.text),
             _ => Word::Unknown,
         }
     }
@@ -86,29 +86,24 @@ impl Piece {
 }
 
 /// Where the next token that begins a piece is.
-pub fn next_command(document: &[u8], tokens: &[Token]) -> Option<usize>
-    requires { All (IsWithin document.now) tokens.now }
-    ensures { result ≡ position (begins document.now) tokens.now }
+pub fn next_command(tokens: &[Token]) -> Option<usize>
+    ensures { result ≡ position begins tokens.now }
 {
-    tokens
-        .iter()
-        .position(|token| Word::of(document, *token).is_command())
+    tokens.iter().position(|token| Word::of(token).is_command())
 }
 
 /// How many tokens come before the next that begins a piece.
-pub fn before_command(document: &[u8], tokens: &[Token]) -> usize
-    requires { All (IsWithin document.now) tokens.now }
-    ensures count { result ≡ position_or_len (begins document.now) tokens.now }
+pub fn before_command(tokens: &[Token]) -> usize
+    ensures count { result ≡ position_or_len begins tokens.now }
     ensures within { result ≤ length tokens.now }
 {
-    next_command(document, tokens).unwrap_or(tokens.len())
+    next_command(tokens).unwrap_or(tokens.len())
 }
 
-/// The pieces of a document whose tokens these are, in order. Fails where memory runs out.
-pub fn split(alloc: Global, document: &[u8], tokens: &[Token]) -> Mem<Vec<Piece>>
+/// The pieces of these tokens, in order. Fails where memory runs out.
+pub fn split(alloc: Global, tokens: &[Token]) -> Mem<Vec<Piece>>
     requires few { length tokens.now ≤ LIMIT }
-    requires within { All (IsWithin document.now) tokens.now }
-    ensures ok { IfOk result (λ v. map (run_of tokens.now) v.items ≡ pieces_of document.now tokens.now) }
+    ensures ok { IfOk result (λ v. map (run_of tokens.now) v.items ≡ pieces_of tokens.now) }
     ensures joined { IfOk result (λ v. flat_map (run_of tokens.now) v.items ≡ tokens.now) }
     ensures ordered { IfOk result (λ v. AllPairs IsRunBefore v.items) }
     ensures runs { IfOk result (λ v. All (IsRun tokens.now) v.items) }
@@ -118,7 +113,7 @@ pub fn split(alloc: Global, document: &[u8], tokens: &[Token]) -> Mem<Vec<Piece>
     let mut first = 0;
     while first < tokens.len() {
         let rest = rest_from(tokens, first + 1);
-        let count = 1 + before_command(document, rest);
+        let count = 1 + before_command(rest);
         found.push(Piece {
             first: first as u32,
             count: count as u32,

@@ -1,12 +1,14 @@
 //! The lines that report theorems and refused commands.
-ghost use Rattle.std.specs.Prelude.{◌≡◌, ◌++◌, OnOk, IfOk, IfErr};
+ghost use Rattle.std.specs.Prelude.{◌≡◌, ◌++◌, if◌then◌else◌, codes, OnOk, IfOk, IfErr};
 ghost use Rattle.std.specs.Option.{option_copied};
 ghost use Rattle.iv_term.specs.declared.want.Want.TheVariants.{Memory};
-ghost use Rattle.isarvm.specs.Report.{is_constant, is_arrow, enclosed, variable_text, prop_text, theorem_head, theorem_line, mode_text, word_text, cause_text, refusal_line};
+ghost use Rattle.isarvm.specs.Report.{is_constant, is_arrow, enclosed, variable_text, prop_text, theorem_head, theorem_line, mode_text, word_text, cause_text, refusal_line, count_line};
 
 use crate::pieces::Word;
 use crate::refusal::{Mode, Refusal};
-use crate::text::{push_ascii, push_char, push_char_if, push_name, push_place, push_text};
+use iv_report::text::{
+    push_ascii, push_char, push_char_if, push_decimal, push_name, push_place, push_text,
+};
 use iv_term::{Head, Mem, Term, Terms, Text};
 use std::alloc::Global;
 
@@ -182,4 +184,28 @@ pub fn refusal_line(
     push_cause(&mut out, line, column, refusal)?;
     push_char(&mut out, '\n')?;
     Text::from_vec(alloc, out)
+}
+
+/// How a document ends: whether `end` was executed.
+fn end_text(ended: bool) -> &'static [u8]
+    ensures { result.now ≡ (if ended then codes "ended" else codes "open") }
+{
+    if ended { b"ended" } else { b"open" }
+}
+
+/// The line that counts theorems and refusals, and says whether the document has ended, with a line feed at its
+/// end. Fails where memory runs out.
+pub fn count_line(alloc: Global, theorems: u64, refusals: u64, ended: bool) -> Mem<Text>
+    ensures ok { IfOk result (λ t. t ≡ count_line theorems refusals ended) }
+    ensures memory { IfErr result (λ w. w ≡ Memory) }
+{
+    let mut line = Vec::new(alloc);
+    push_ascii(&mut line, b"theorems ")?;
+    push_decimal(&mut line, theorems)?;
+    push_ascii(&mut line, b" refusals ")?;
+    push_decimal(&mut line, refusals)?;
+    push_char(&mut line, ' ')?;
+    push_ascii(&mut line, end_text(ended))?;
+    push_char(&mut line, '\n')?;
+    Text::from_vec(alloc, line)
 }

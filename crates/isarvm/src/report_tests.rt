@@ -1,7 +1,7 @@
 use crate::pieces::Word;
 use crate::refusal::{Mode, Refusal};
 use crate::report::{refusal_line, theorem_line};
-use crate::text::encoded;
+use iv_report::text::encoded;
 use iv_term::{Head, Name, Term, Terms, Text, Typ};
 use iv_text::Pos;
 use std::test::Fail;

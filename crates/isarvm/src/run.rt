@@ -1,28 +1,30 @@
-ghost use Rattle.std.specs.Prelude.{◌≡◌, ◌≢◌, ℕ, ◌+◌, ◌≤◌, ◌<◌, ◌⊎◌, Bool, ◌&&◌, Err, List, [], ◌∷◌, ◌++◌, Some, map, length, All, AllPairs, drop, codes, string_bytes, encode_utf8_all, IsTrue, ◌↔◌, IfOk, IfErr, OnOk, OnErr, if◌then◌else◌};
+ghost use Rattle.std.specs.Prelude.{◌≡◌, ◌≢◌, ℕ, ◌+◌, ◌≤◌, ◌<◌, ◌⊎◌, Bool, ◌&&◌, Err, List, [], ◌∷◌, ◌++◌, Some, map, length, All, AllPairs, drop, None, string_bytes, encode_utf8_all, IfOk, IfErr, OnOk, OnErr, if◌then◌else◌};
 ghost use Rattle.std.specs.List.{flat_map};
 ghost use Rattle.iv_term.specs.declared.want.Want.TheVariants.{Memory};
 ghost use Rattle.iv_io.specs.Counts.{Rose, RoseAbove};
-ghost use Rattle.isarvm.specs.Place.{line_of, column_of, IsAt};
+ghost use Rattle.iv_report.specs.Place.{line_of, column_of, IsAt};
 ghost use Rattle.isarvm.specs.Command.{IsNoLater, BeginsIn};
-ghost use Rattle.isarvm.specs.Report.{refusal_line};
+ghost use Rattle.isarvm.specs.Report.{refusal_line, count_line};
+ghost use Rattle.iv_words.specs.Words.{task_of};
+ghost use Rattle.iv_words.specs.declared.words.Task.{Task};
 ghost use Rattle.isarvm.specs.Machine.{start, executed, next};
 ghost use Rattle.isarvm.specs.Sound.{IsSound, AllClosed, machine_of, seen};
 ghost use Rattle.iv_kernel.specs.declared.theorems.NamedThm.{NamedThm};
-ghost use Rattle.isarvm.specs.Answer.{answer_of, stopped_by, IsCheck, IsRun, IsAnswered, IsUnread};
-ghost use Rattle.isarvm.specs.Run.{AllDerivable, line_of_finished, lines_of, report_from, state_behind, all_accepted, is_accepted, is_ended, report_of, theorems_of, is_done, IsFrontOf};
+ghost use Rattle.isarvm.specs.Answer.{answer_of, stopped_by, IsRun, IsAnswered, IsUnread};
+ghost use Rattle.isarvm.specs.Run.{AllDerivable, line_of_finished, lines_of, report_from, state_behind, all_accepted, is_accepted, is_ended, refusals_in, counts_behind, reported, report_of, theorems_of, is_done, IsFrontOf};
 
-use crate::bytes::rest_from;
 use crate::commands::{Command, commands};
+use crate::letters::rest_from;
 use crate::machine::Vm;
-use crate::places::Cursor;
 use crate::refusal::Refusal;
-use crate::report::{refusal_line, theorem_line};
+use crate::report::{count_line, refusal_line, theorem_line};
 use crate::status::Status;
-use crate::text::encoded;
-use crate::tokens::LIMIT;
 use iv_io::{Failed, ReadError, Sink, Source, read_all, write_all};
 use iv_kernel::{NamedThm, Theorems};
+use iv_report::text::encoded;
+use iv_report::{Cursor, LIMIT};
 use iv_term::{Mem, Want};
+use iv_words::{BadWords, Task, task_given};
 use std::alloc::Global;
 
 /// What a command gave: whether it was accepted, and its part of the report as bytes.
@@ -197,6 +199,115 @@ pub fn execute<K: Sink>(
     Ok(accepted)
 }
 
+/// Executes a command and says whether it was accepted. Fails where memory runs out; the state is then as before.
+fn accepts(vm: &mut Vm, command: &Command) -> Mem<bool>
+    requires sound { IsSound vm.old }
+    ensures accepted { IfOk result (λ b. b ≡ is_accepted (executed command.now (machine_of vm.old))) }
+    ensures state { OnOk result (machine_of vm.new ≡ next command.now (machine_of vm.old)) }
+    ensures stays { OnErr result (machine_of vm.new ≡ machine_of vm.old) }
+    ensures sound { IsSound vm.new }
+    ensures memory { IfErr result (λ w. w ≡ Memory) }
+{
+    match vm.exec(command) {
+        Ok(()) => Ok(true),
+        Err(Refusal::Memory) => Err(Want::Memory),
+        Err(_refusal) => Ok(false),
+    }
+}
+
+/// What a command adds to the number of refused ones.
+fn one_unless(accepted: bool) -> u64
+    ensures value { result ≡ (if accepted then 0 else 1) }
+    ensures small { result ≤ 1 }
+{
+    if accepted { 0 } else { 1 }
+}
+
+/// Executes commands in order and says how many of them were refused. Fails where memory runs out.
+pub fn count_refused(commands: &[Command], vm: &mut Vm) -> Mem<u64>
+    requires sound { IsSound vm.old }
+    ensures ok { IfOk result (λ n. n ≡ refusals_in (machine_of vm.old) commands.now) }
+    ensures state { OnOk result (machine_of vm.new ≡ state_behind (machine_of vm.old) commands.now) }
+    ensures finished { IsFrontOf (machine_of vm.new).finished (state_behind (machine_of vm.old) commands.now).finished }
+    ensures sound { IsSound vm.new }
+    ensures memory { IfErr result (λ w. w ≡ Memory) }
+{
+    let mut refused = 0;
+    for command in commands {
+        let accepted = accepts(vm, command)?;
+        refused += one_unless(accepted);
+    }
+    Ok(refused)
+}
+
+/// The line of counts of a run, as bytes. Fails where memory runs out.
+fn count_bytes(alloc: Global, vm: &Vm, refused: u64) -> Mem<Vec<u8>>
+    ensures ok { IfOk result (λ v. v.items ≡ encode_utf8_all
+        (count_line (length (machine_of vm.now).finished) refused (is_ended (machine_of vm.now).stage))) }
+    ensures memory { IfErr result (λ w. w ≡ Memory) }
+{
+    let theorems = vm.theorems().len() as u64;
+    let line = count_line(alloc, theorems, refused, vm.is_ended())?;
+    encoded(alloc, &line)
+}
+
+/// Executes commands in order and writes one line of counts behind them. Says whether all were accepted. Stops where
+/// memory runs out or the sink fails.
+pub fn tally<K: Sink>(
+    alloc: Global,
+    commands: &[Command],
+    vm: &mut Vm,
+    sink: &mut K,
+) -> Result<bool, Stop>
+    requires sound { IsSound vm.old }
+    ensures accepted { IfOk result (λ b. b ≡ all_accepted (machine_of vm.old) commands.now) }
+    ensures state { OnOk result (machine_of vm.new ≡ state_behind (machine_of vm.old) commands.now) }
+    ensures written { OnOk result ((w : List ℕ) → K.written sink.old ≡ Some w →
+        K.written sink.new ≡ Some (w ++ encode_utf8_all (counts_behind (machine_of vm.old) commands.now))) }
+    ensures front { (w : List ℕ) → K.written sink.old ≡ Some w → (front : List ℕ) × ((K.written sink.new ≡ Some (w ++ front))
+        × IsFrontOf front (encode_utf8_all (counts_behind (machine_of vm.old) commands.now))) }
+    ensures finished { IsFrontOf (machine_of vm.new).finished (state_behind (machine_of vm.old) commands.now).finished }
+    ensures fault { result ≡ Err Stop.WriteFault → Rose (K.faults sink.old) (K.faults sink.new) }
+    ensures faults_grow { K.faults sink.old ≤ K.faults sink.new }
+    ensures sound { IsSound vm.new }
+{
+    let refused = count_refused(commands, vm)?;
+    let bytes = count_bytes(alloc, vm, refused)?;
+    write_all(sink, bytes.as_slice())?;
+    Ok(refused == 0)
+}
+
+/// Executes commands in order and writes what the task reports of them. Says whether all were accepted. Stops where
+/// memory runs out or the sink fails.
+fn perform<K: Sink>(
+    alloc: Global,
+    task: Task,
+    document: &[u8],
+    commands: &[Command],
+    vm: &mut Vm,
+    sink: &mut K,
+) -> Result<bool, Stop>
+    requires small { length document.now ≤ LIMIT }
+    requires ordered { AllPairs IsNoLater commands.now }
+    requires inside { All (BeginsIn document.now) commands.now }
+    requires sound { IsSound vm.old }
+    ensures accepted { IfOk result (λ b. b ≡ all_accepted (machine_of vm.old) commands.now) }
+    ensures state { OnOk result (machine_of vm.new ≡ state_behind (machine_of vm.old) commands.now) }
+    ensures written { OnOk result ((w : List ℕ) → K.written sink.old ≡ Some w →
+        K.written sink.new ≡ Some (w ++ encode_utf8_all (reported task document.now (machine_of vm.old) commands.now))) }
+    ensures front { (w : List ℕ) → K.written sink.old ≡ Some w → (front : List ℕ) × ((K.written sink.new ≡ Some (w ++ front))
+        × IsFrontOf front (encode_utf8_all (reported task document.now (machine_of vm.old) commands.now))) }
+    ensures finished { IsFrontOf (machine_of vm.new).finished (state_behind (machine_of vm.old) commands.now).finished }
+    ensures fault { result ≡ Err Stop.WriteFault → Rose (K.faults sink.old) (K.faults sink.new) }
+    ensures faults_grow { K.faults sink.old ≤ K.faults sink.new }
+    ensures sound { IsSound vm.new }
+{
+    match task {
+        Task::Check => execute(alloc, document, commands, vm, sink),
+        Task::Count => tally(alloc, commands, vm, sink),
+    }
+}
+
 /// The answer of a run.
 fn status_of(run: Result<bool, Stop>, ended: bool) -> Status
     ensures ok { IfOk run (λ accepted. result ≡ answer_of (accepted && ended)) }
@@ -215,15 +326,21 @@ fn status_of(run: Result<bool, Stop>, ended: bool) -> Status
     }
 }
 
-/// Executes a document, writes its report, and puts its theorems at the end of `proved`.
-pub fn check<K: Sink>(alloc: Global, document: &[u8], sink: &mut K, proved: &mut Theorems) -> Status
+/// Executes a document, writes what the task reports of it, and puts its theorems at the end of `proved`.
+pub fn check<K: Sink>(
+    alloc: Global,
+    task: Task,
+    document: &[u8],
+    sink: &mut K,
+    proved: &mut Theorems,
+) -> Status
     requires { length document.now ≤ LIMIT }
     ensures answers { IsRun result }
     ensures done { IsAnswered result → result ≡ answer_of (is_done document.now) }
     ensures written { IsAnswered result → (w : List ℕ) → K.written sink.old ≡ Some w →
-        K.written sink.new ≡ Some (w ++ report_of document.now) }
+        K.written sink.new ≡ Some (w ++ report_of task document.now) }
     ensures front { (w : List ℕ) → K.written sink.old ≡ Some w →
-        (front : List ℕ) × ((K.written sink.new ≡ Some (w ++ front)) × IsFrontOf front (report_of document.now)) }
+        (front : List ℕ) × ((K.written sink.new ≡ Some (w ++ front)) × IsFrontOf front (report_of task document.now)) }
     ensures theorems { IsAnswered result →
         (ts : List NamedThm) × ((proved.new ≡ proved.old ++ ts) × (map seen ts ≡ theorems_of document.now)) }
     ensures some { (ts : List NamedThm) × ((proved.new ≡ proved.old ++ ts)
@@ -236,7 +353,7 @@ pub fn check<K: Sink>(alloc: Global, document: &[u8], sink: &mut K, proved: &mut
         Err(_want) => return Status::Memory,
     };
     let mut vm = Vm::new(alloc);
-    let run = execute(alloc, document, commands.as_slice(), &mut vm, sink);
+    let run = perform(alloc, task, document, commands.as_slice(), &mut vm, sink);
     let status = status_of(run, vm.is_ended());
     match proved.append(vm.into_theorems()) {
         Ok(()) => status,
@@ -244,24 +361,52 @@ pub fn check<K: Sink>(alloc: Global, document: &[u8], sink: &mut K, proved: &mut
     }
 }
 
-/// Whether the words are the one word `check`.
-pub fn is_check(words: &[String]) -> bool
-    ensures { IsTrue result ↔ IsCheck words.now }
+/// Reads the source to its end, executes the document, writes what the task reports of it, and puts its theorems at
+/// the end of `proved`. It answers as [`run_isar`] does, but for `Usage`.
+fn run_task<S: Source, K: Sink>(
+    alloc: Global,
+    task: Task,
+    source: &mut S,
+    sink: &mut K,
+    proved: &mut Theorems,
+) -> Status
+    ensures no_usage { result ≢ Status.Usage }
+    ensures unread { IsUnread result → (K.written sink.new ≡ K.written sink.old)
+        × (K.faults sink.new ≡ K.faults sink.old) × (proved.new ≡ proved.old) }
+    ensures too_large { result ≡ Status.TooLarge → RoseAbove LIMIT (S.taken source.old) (S.taken source.new) }
+    ensures too_large_told { result ≡ Status.TooLarge → (b : List ℕ) → S.left source.old ≡ Some b → LIMIT < length b }
+    ensures not_too_large { result ≢ Status.TooLarge → S.taken source.new ≤ S.taken source.old + LIMIT }
+    ensures read_fault { result ≡ Status.ReadFault → Rose (S.faults source.old) (S.faults source.new) }
+    ensures write_fault { result ≡ Status.WriteFault → Rose (K.faults sink.old) (K.faults sink.new) }
+    ensures never_number { result ≢ Status.Number }
+    ensures done { IsAnswered result → (b : List ℕ) → S.left source.old ≡ Some b → result ≡ answer_of (is_done b) }
+    ensures report { IsAnswered result → (b w : List ℕ) → S.left source.old ≡ Some b → K.written sink.old ≡ Some w →
+        K.written sink.new ≡ Some (w ++ report_of task b) }
+    ensures front { (b w : List ℕ) → S.left source.old ≡ Some b → K.written sink.old ≡ Some w →
+        (front : List ℕ) × ((K.written sink.new ≡ Some (w ++ front)) × IsFrontOf front (report_of task b)) }
+    ensures theorems { IsAnswered result → (b : List ℕ) → S.left source.old ≡ Some b →
+        (ts : List NamedThm) × ((proved.new ≡ proved.old ++ ts) × (map seen ts ≡ theorems_of b)) }
+    ensures closed { (ts : List NamedThm) × ((proved.new ≡ proved.old ++ ts) × (AllClosed ts
+        × ((b : List ℕ) → S.left source.old ≡ Some b → IsFrontOf (map seen ts) (theorems_of b)))) }
 {
-    match words {
-        [word] => word.as_str() == "check",
-        _ => false,
-    }
+    let document = match read_all(alloc, source, LIMIT) {
+        Ok(document) => document,
+        Err(ReadError::Failed) => return Status::ReadFault,
+        Err(ReadError::TooLarge) => return Status::TooLarge,
+        Err(ReadError::Memory) => return Status::Memory,
+    };
+    check(alloc, task, document.as_slice(), sink, proved)
 }
 
-/// Checks a document: reads the source to its end, executes the commands in order, writes the part of the
-/// report of each before the next is executed, and puts the theorems at the end of `proved`.
+/// Checks a document: reads the source to its end, executes the commands in order, writes the part of the report of
+/// each before the next is executed, and puts the theorems at the end of `proved`. The words say what is reported: with
+/// `check` a line for each theorem and each refused command, with `count` one line of counts at the end.
 ///
 /// | Answer | Comes |
 /// |---|---|
 /// | `Done` | no command was refused, the last was `end`, and the whole report was written |
 /// | `Refused` | a command was refused or `end` is missing, and the whole report was written |
-/// | `Usage` | exactly where the words are not the one word `check`; nothing is read or written |
+/// | `Usage` | exactly where the words ask for no task, unless memory runs out; nothing is read or written |
 /// | `Memory` | memory ran out; a front part of the report was written |
 /// | `ReadFault` | only where the source's faults rose; nothing is written |
 /// | `WriteFault` | only where the sink's faults rose; a front part of the report was written |
@@ -275,9 +420,12 @@ pub fn run_isar<S: Source, K: Sink>(
     proved: &mut Theorems,
 ) -> Status
     // the statuses
-    ensures usage { (result ≡ Status.Usage) ↔ (¬ (IsCheck words.now)) }
-    ensures usage_reads_nothing { result ≡ Status.Usage → (S.left source.new ≡ S.left source.old)
+    ensures usage { result ≡ Status.Usage → task_of (map string_bytes words.now) ≡ None }
+    ensures no_task { task_of (map string_bytes words.now) ≡ None → (result ≡ Status.Usage) ⊎ (result ≡ Status.Memory) }
+    ensures no_task_reads_nothing { task_of (map string_bytes words.now) ≡ None → (S.left source.new ≡ S.left source.old)
         × (S.taken source.new ≡ S.taken source.old) × (S.faults source.new ≡ S.faults source.old) }
+    ensures no_task_writes_nothing { task_of (map string_bytes words.now) ≡ None → (K.written sink.new ≡ K.written sink.old)
+        × (K.faults sink.new ≡ K.faults sink.old) × (proved.new ≡ proved.old) }
     ensures unread { IsUnread result → (K.written sink.new ≡ K.written sink.old)
         × (K.faults sink.new ≡ K.faults sink.old) × (proved.new ≡ proved.old) }
     ensures too_large { result ≡ Status.TooLarge → RoseAbove LIMIT (S.taken source.old) (S.taken source.new) }
@@ -288,10 +436,11 @@ pub fn run_isar<S: Source, K: Sink>(
     ensures never_number { result ≢ Status.Number }
     ensures done { IsAnswered result → (b : List ℕ) → S.left source.old ≡ Some b → result ≡ answer_of (is_done b) }
     // the report, whole after `Done` and `Refused`, and else a front part of it
-    ensures report { IsAnswered result → (b w : List ℕ) → S.left source.old ≡ Some b → K.written sink.old ≡ Some w →
-        K.written sink.new ≡ Some (w ++ report_of b) }
-    ensures front { (b w : List ℕ) → S.left source.old ≡ Some b → K.written sink.old ≡ Some w →
-        (front : List ℕ) × ((K.written sink.new ≡ Some (w ++ front)) × IsFrontOf front (report_of b)) }
+    ensures report { IsAnswered result → (task : Task) → task_of (map string_bytes words.now) ≡ Some task → (b w : List ℕ) →
+        S.left source.old ≡ Some b → K.written sink.old ≡ Some w → K.written sink.new ≡ Some (w ++ report_of task b) }
+    ensures front { (task : Task) → task_of (map string_bytes words.now) ≡ Some task → (b w : List ℕ) →
+        S.left source.old ≡ Some b → K.written sink.old ≡ Some w →
+        (front : List ℕ) × ((K.written sink.new ≡ Some (w ++ front)) × IsFrontOf front (report_of task b)) }
     // the theorems, all after `Done` and `Refused`, and else the first of them; each keeps a derivation that
     // concludes it without hypotheses and rests on no axiom, whatever the source and the sink tell
     ensures theorems { IsAnswered result → (b : List ℕ) → S.left source.old ≡ Some b →
@@ -301,14 +450,9 @@ pub fn run_isar<S: Source, K: Sink>(
     // each theorem that any document reports is derivable
     ensures derivable { (b : List ℕ) → AllDerivable (theorems_of b) }
 {
-    if !is_check(words) {
-        return Status::Usage;
+    match task_given(alloc, words) {
+        Ok(task) => run_task(alloc, task, source, sink, proved),
+        Err(BadWords::Usage) => Status::Usage,
+        Err(BadWords::Memory) => Status::Memory,
     }
-    let document = match read_all(alloc, source, LIMIT) {
-        Ok(document) => document,
-        Err(ReadError::Failed) => return Status::ReadFault,
-        Err(ReadError::TooLarge) => return Status::TooLarge,
-        Err(ReadError::Memory) => return Status::Memory,
-    };
-    check(alloc, document.as_slice(), sink, proved)
 }

@@ -9,10 +9,15 @@ use std::alloc::Global;
 use std::process::Abort;
 use std::test::Fail;
 
-/// One line, and its report.
-const SHORT: &str = "lemma a: \"PROP A ==> PROP A\" by assumption end\n";
+/// Three lines, and their report.
+const THREE: &str =
+    "lemma a: \"PROP A ==> PROP A\" by assumption\nlemma b: \"PROP A\" by assumption\noops end\n";
 
-const SHORT_REPORT: &str = "theorem a: PROP ?A ==> PROP ?A\n";
+const FIRST_LINE: &str = "theorem a: PROP ?A ==> PROP ?A\n";
+
+const SECOND_LINE: &str = "refused 2:19 by empty\n";
+
+const THREE_REPORT: &str = "theorem a: PROP ?A ==> PROP ?A\nrefused 2:19 by empty\n";
 
 /// How a run over memory ended.
 #[derive(Drop)]
@@ -22,7 +27,7 @@ struct Ended {
     theorems: usize,
 }
 
-/// Runs a document that comes and goes in pieces, where some calls fail.
+/// Runs a document that comes and goes in pieces, where some calls fail. An empty word is none.
 fn run(
     alloc: Global,
     word: &str,
@@ -33,11 +38,14 @@ fn run(
 ) -> Result<Ended, Fail>
     requires { 1 ≤ piece }
 {
-    let words = vec![in alloc; String::from_str(alloc, word)?]?;
+    let mut words = Vec::new(alloc);
+    if !word.is_empty() {
+        words.push(String::from_str(alloc, word)?)?;
+    }
     let bytes = Vec::from_slice(alloc, document)?;
     let mut source = MemSource::new(bytes, piece, Vec::from_slice(alloc, read_fails)?);
     let fails = Vec::from_slice(alloc, write_fails)?;
-    let mut sink = MemSink::new(alloc, 4096, piece, fails)?;
+    let mut sink = MemSink::new(alloc, 65_536, piece, fails)?;
     let mut proved = Theorems::new(alloc);
     let status = run_isar(alloc, words.as_slice(), &mut source, &mut sink, &mut proved);
     Ok(Ended {
@@ -47,67 +55,130 @@ fn run(
     })
 }
 
-/// Runs a document without faults, and compares its report and its answer.
-fn reports(
-    rt: &impl Abort,
-    alloc: Global,
-    document: &str,
-    report: &str,
-    status: Status,
-    theorems: usize,
-) -> Result<(), Fail> {
-    let ended = run(alloc, "check", document.as_bytes(), 7, &[], &[])?;
-    assert_eq!(rt; ended.written.as_slice(), report.as_bytes());
-    assert_eq!(rt; ended.status, status);
-    assert_eq!(rt; ended.theorems, theorems);
-    Ok(())
-}
+/// Words, a document, its report and answer, and how many theorems it proves.
+type Row<'a> = (&'a str, &'a str, &'a str, Status, usize);
 
 #[test]
 fn documents(rt: HostRuntime) -> Result<(), Fail> {
-    reports(&rt, rt.alloc(), SHORT, SHORT_REPORT, Status::Done, 1)?;
-    reports(&rt, rt.alloc(), "", "", Status::Refused, 0)?;
     let recovered =
         "lemma a: \"PROP A ==> PROP B\" by assumption\noops\nlemma b: \"PROP A ==> PROP A\" by assumption\nend\n";
-    let report = "refused 1:30 by empty\ntheorem b: PROP ?A ==> PROP ?A\n";
-    reports(&rt, rt.alloc(), recovered, report, Status::Refused, 1)?;
-    let twice =
-        "lemma a: \"PROP B ==> PROP A ==> PROP B\" by assumption lemma a: \"PROP A\" oops end end";
-    let report =
-        "theorem a: PROP ?B ==> PROP ?A ==> PROP ?B\nrefused 1:55 lemma name a\nrefused 1:73 oops mode theory\nrefused 1:82 end mode ended\n";
-    reports(&rt, rt.alloc(), twice, report, Status::Refused, 1)
+    let rows: [Row<'_>; 9] = [
+        (
+            "check",
+            "lemma a: \"PROP A ==> PROP A\" by assumption end\n",
+            "theorem a: PROP ?A ==> PROP ?A\n",
+            Status::Done,
+            1,
+        ),
+        ("check", "", "", Status::Refused, 0),
+        (
+            "count",
+            "",
+            "theorems 0 refusals 0 open\n",
+            Status::Refused,
+            0,
+        ),
+        (
+            "check",
+            recovered,
+            "refused 1:30 by empty\ntheorem b: PROP ?A ==> PROP ?A\n",
+            Status::Refused,
+            1,
+        ),
+        (
+            "count",
+            recovered,
+            "theorems 1 refusals 1 ended\n",
+            Status::Refused,
+            1,
+        ),
+        (
+            "check",
+            "lemma a: \\<open>PROP B ==> PROP A ==> PROP B\\<close> by assumption lemma a: \"PROP A\" oops end end",
+            "theorem a: PROP ?B ==> PROP ?A ==> PROP ?B\nrefused 1:68 lemma name a\nrefused 1:86 oops mode theory\nrefused 1:95 end mode ended\n",
+            Status::Refused,
+            1,
+        ),
+        (
+            "check",
+            "(* \u{540d} *) \u{540d} \u{3bb} lemma \u{540d}: \"PROP A ==> PROP A\" by assumption\tend",
+            "refused 1:10 ? syntax 1:10\ntheorem \u{540d}: PROP ?A ==> PROP ?A\n",
+            Status::Refused,
+            1,
+        ),
+        ("run", THREE, "", Status::Usage, 0),
+        ("", THREE, "", Status::Usage, 0),
+    ];
+    for (word, document, report, status, theorems) in rows {
+        let ended = run(rt.alloc(), word, document.as_bytes(), 7, &[], &[])?;
+        assert_eq!(rt; ended.written.as_slice(), report.as_bytes());
+        assert_eq!(rt; ended.status, status);
+        assert_eq!(rt; ended.theorems, theorems);
+    }
+    Ok(())
+}
+
+/// A document of three lines with `blanks` spaces before its last line feed.
+fn spaced(alloc: Global, blanks: usize) -> Result<Vec<u8>, Fail> {
+    let mut document = Vec::from_slice(alloc, THREE.as_bytes())?;
+    for _ in 0..blanks {
+        document.push(b' ')?;
+    }
+    document.push(b'\n')?;
+    Ok(document)
+}
+
+/// How many calls it takes to move so many bytes in pieces, each of at most 4,096 bytes.
+fn calls(bytes: usize, piece: usize) -> u64
+    requires { 1 ≤ piece }
+{
+    let piece = if piece < 4096 { piece } else { 4096 };
+    bytes.div_ceil(piece) as u64
 }
 
 #[test]
 fn failing_calls(rt: HostRuntime) -> Result<(), Fail> {
-    for call in 1..7 {
-        let ended = run(rt.alloc(), "check", SHORT.as_bytes(), 10, &[call], &[])?;
-        assert_eq!(rt; ended.status, Status::ReadFault);
-        assert_eq!(rt; ended.written.len(), 0);
-    }
-    for call in 1u64..5 {
-        let ended = run(rt.alloc(), "check", SHORT.as_bytes(), 10, &[], &[call])?;
-        assert_eq!(rt; ended.status, Status::WriteFault);
-        assert_eq!(rt; ended.written.len() as u64, 10 * (call - 1));
-        assert!(rt;
-            SHORT_REPORT
-                .as_bytes()
-                .starts_with(ended.written.as_slice())
-        );
+    for (piece, blanks) in [(1, 0), (2, 0), (4095, 9000), (4096, 9000), (4097, 9000)] {
+        let document = spaced(rt.alloc(), blanks)?;
+        for call in 1..=calls(document.len(), piece) + 1 {
+            let ended = run(
+                rt.alloc(),
+                "check",
+                document.as_slice(),
+                piece,
+                &[call],
+                &[],
+            )?;
+            assert_eq!(rt; ended.status, Status::ReadFault);
+            assert_eq!(rt; ended.written.len(), 0);
+        }
+        for call in 1..=calls(FIRST_LINE.len(), piece) + calls(SECOND_LINE.len(), piece) {
+            let ended = run(
+                rt.alloc(),
+                "check",
+                document.as_slice(),
+                piece,
+                &[],
+                &[call],
+            )?;
+            assert_eq!(rt; ended.status, Status::WriteFault);
+            assert!(rt;
+                THREE_REPORT
+                    .as_bytes()
+                    .starts_with(ended.written.as_slice())
+            );
+        }
     }
     Ok(())
 }
 
 #[test]
-fn limits_and_words(rt: HostRuntime) -> Result<(), Fail> {
-    let spaces = vec![in rt.alloc(); b' '; 4_194_304]?;
-    let ended = run(rt.alloc(), "check", spaces.as_slice(), 65_536, &[], &[])?;
-    assert_eq!(rt; ended.status, Status::Refused);
-    let spaces = vec![in rt.alloc(); b' '; 4_194_305]?;
-    let ended = run(rt.alloc(), "check", spaces.as_slice(), 65_536, &[], &[])?;
-    assert_eq!(rt; ended.status, Status::TooLarge);
-    assert_eq!(rt; ended.written.len(), 0);
-    let ended = run(rt.alloc(), "run", SHORT.as_bytes(), 1, &[], &[])?;
-    assert_eq!(rt; ended.status, Status::Usage);
+fn limits(rt: HostRuntime) -> Result<(), Fail> {
+    for (length, status) in [(4_194_304, Status::Refused), (4_194_305, Status::TooLarge)] {
+        let spaces = vec![in rt.alloc(); b' '; length]?;
+        let ended = run(rt.alloc(), "check", spaces.as_slice(), 65_536, &[], &[])?;
+        assert_eq!(rt; ended.status, status);
+        assert_eq!(rt; ended.written.len(), 0);
+    }
     Ok(())
 }

@@ -1,23 +1,7 @@
 use crate::commands::{Command, Form, commands};
-use crate::places::Cursor;
-use crate::tokens::{LIMIT, tokens};
+use iv_report::LIMIT;
 use iv_term::Text;
-use iv_text::Pos;
 use std::test::Fail;
-
-/// Each token as its kind and its offsets.
-fn listed_tokens(rt: &HostRuntime, document: &[u8]) -> Result<String, Fail> {
-    let mut out = String::new(rt.alloc());
-    if document.len() <= LIMIT {
-        for token in &tokens(rt.alloc(), document)? {
-            let kind = token.kind;
-            let at = token.at.0;
-            let end = token.end.0;
-            write!(&mut out, "{kind:?} {at}-{end};")?;
-        }
-    }
-    Ok(out)
-}
 
 fn push_text(out: &mut String, text: &Text) -> Result<(), Fail> {
     for c in text.as_slice() {
@@ -62,24 +46,6 @@ fn listed_commands(rt: &HostRuntime, document: &[u8]) -> Result<String, Fail> {
 }
 
 #[test]
-fn documents_as_tokens(rt: HostRuntime) -> Result<(), Fail> {
-    let rows = [
-        (
-            "lemma a_1:\t\"P\"\r\n",
-            "Word 0-5;Word 6-9;Colon 9-10;Quoted 11-14;",
-        ),
-        ("x2 9\u{ff}", "Word 0-2;Bad 3-4;Bad 4-5;Bad 5-6;"),
-        ("a \"b\nc", "Word 0-1;Bad 2-6;"),
-        ("\"\"\"", "Quoted 0-2;Bad 2-3;"),
-    ];
-    for (document, expected) in rows {
-        let listed = listed_tokens(&rt, document.as_bytes())?;
-        assert_eq!(rt; listed.as_str(), expected);
-    }
-    Ok(())
-}
-
-#[test]
 fn documents_as_commands(rt: HostRuntime) -> Result<(), Fail> {
     let rows = [
         (
@@ -107,14 +73,4 @@ fn documents_as_commands(rt: HostRuntime) -> Result<(), Fail> {
         assert_eq!(rt; listed.as_str(), expected);
     }
     Ok(())
-}
-
-#[test]
-fn lines_and_columns(rt: HostRuntime) {
-    let document = b"ab\n\ncd";
-    let mut cursor = Cursor::start();
-    assert_eq!(rt; cursor.advance(document, Pos(0)), (1, 1));
-    assert_eq!(rt; cursor.advance(document, Pos(2)), (1, 3));
-    assert_eq!(rt; cursor.advance(document, Pos(3)), (2, 1));
-    assert_eq!(rt; cursor.advance(document, Pos(6)), (3, 3));
 }

@@ -10,7 +10,7 @@ loop-first-preserved c =
     let fits = rw c.rest_from-rest.ensures at c.before_command-count.ensures.within in
     record {
       inside = omega (arith, fits, length-drop (c.loop-first.first + 1) c.args.tokens.now);
-      so_far = rw c.in_ok-push.ensures.items (after_piece _ _ _ _ _ c.loop-first-test.true count c.loop-first.invariant.so_far);
+      so_far = rw c.in_ok-push.ensures.items (after_piece _ _ _ _ c.loop-first-test.true count c.loop-first.invariant.so_far);
       joined = rw c.in_ok-push.ensures.items (joined_more _ _ _ c.loop-first.found.items c.loop-first.invariant.joined);
       ordered = rw c.in_ok-push.ensures.items (all_pairs_push IsRunBefore _ _ c.loop-first.invariant.ordered c.loop-first.invariant.ended);
       ended = rw c.in_ok-push.ensures.items (ended_more c.loop-first.first c.before_command-count.result c.loop-first.found.items c.loop-first.invariant.ended);

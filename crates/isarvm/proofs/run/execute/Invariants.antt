@@ -1,7 +1,7 @@
 use Rattle.std.proofs.Common.{◌≡◌, ◌≤◌, ◌<◌, ℕ, List, ◌++◌, length, drop, get_or, ◌&&◌}
 use Rattle.std.specs.Prelude.{Some, encode_utf8_all}
 use Rattle.isarvm.specs.declared.commands.Command.{Command}
-use Rattle.isarvm.specs.Place.{IsAt}
+use Rattle.iv_report.specs.Place.{IsAt}
 use Rattle.isarvm.specs.Sound.{IsSound, machine_of}
 use Rattle.isarvm.specs.Run.{report_from, state_behind, all_accepted}
 use Rattle.isarvm.proofs.run.execute.Given as goal
