@@ -94,7 +94,6 @@ turned p q f c e = turned_by (p c) refl
     turned_by true g = let bad : q c ≡ false = f c g in cc
     turned_by false g = refl
 
-
 -- a character of the table is one of ten
 sign_case : (v : Bool) (c : ℕ) (s : Symbol) (others rest : Bool) → (c == s.character) ≡ v → (v ≡ false → others ≡ true) → ((s.character == c) || others) ≡ true
 sign_case true c s others rest g f = let e : c ≡ s.character = same c s.character g in let h : (s.character == c) ≡ true = rw (← e) (same_refl c) in rw h refl

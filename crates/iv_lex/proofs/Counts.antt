@@ -75,13 +75,13 @@ dotted_named (l ∷ ls) dot b h d n = record {
   is = refl;
   starts = and_first (is_start l) _ h;
   goes = λ rest.
-    let one : name_more ((ls ++ (dot ∷ b)) ++ rest) ≡ length ls + name_more ((dot ∷ b) ++ rest) = ap name_more (append_assoc ls (dot ∷ b) rest) ∙ name_passes ls ((dot ∷ b) ++ rest) (and_second (is_start l) _ h) in
-    let two : name_more (dot ∷ (n.front ∷ (n.more ++ rest))) ≡ suc (name_more (n.front ∷ (n.more ++ rest))) = rw (d, n.starts, or_true (is_continue dot)) refl in
-    let three : name_more (n.front ∷ (n.more ++ rest)) ≡ suc (name_more (n.more ++ rest)) = rw (start_continues n.front n.starts) refl in
-    let same : name_more ((dot ∷ b) ++ rest) ≡ name_more (dot ∷ (n.front ∷ (n.more ++ rest))) = ap (λ x. name_more ((dot ∷ x) ++ rest)) n.is in
-    let len : length b ≡ suc (length n.more) = ap length n.is in
-    let all : length (ls ++ (dot ∷ b)) ≡ length ls + suc (length b) = length-append ls (dot ∷ b) in
-    omega (arith, one, two, three, same, len, all, n.goes rest);
+      let one : name_more ((ls ++ (dot ∷ b)) ++ rest) ≡ length ls + name_more ((dot ∷ b) ++ rest) = ap name_more (append_assoc ls (dot ∷ b) rest) ∙ name_passes ls ((dot ∷ b) ++ rest) (and_second (is_start l) _ h) in
+      let two : name_more (dot ∷ (n.front ∷ (n.more ++ rest))) ≡ suc (name_more (n.front ∷ (n.more ++ rest))) = rw (d, n.starts, or_true (is_continue dot)) refl in
+      let three : name_more (n.front ∷ (n.more ++ rest)) ≡ suc (name_more (n.more ++ rest)) = rw (start_continues n.front n.starts) refl in
+      let same : name_more ((dot ∷ b) ++ rest) ≡ name_more (dot ∷ (n.front ∷ (n.more ++ rest))) = ap (λ x. name_more ((dot ∷ x) ++ rest)) n.is in
+      let len : length b ≡ suc (length n.more) = ap length n.is in
+      let all : length (ls ++ (dot ∷ b)) ≡ length ls + suc (length b) = length-append ls (dot ∷ b) in
+      omega (arith, one, two, three, same, len, all, n.goes rest);
 }
 
 pub long_named : (w : List Letter) → IsLong w → NameFront w
@@ -154,7 +154,7 @@ named_all [] = (λ a h. named_stop a h, λ m ms e. cc)
 named_all (l ∷ ls) =
     let rest = named_all ls in (
       λ a h. named_step a l ls (is_continue l) h refl (λ e. shifted a l (take (name_more ls) ls) (rest.0 (a ++ (l ∷ [])) (longer a l h e))) (λ w e k. named_by a l ls w h e (rest.1)),
-      λ m ms e. subst NamedTo (tail_of l m ls ms e) (rest.0)
+      λ m ms e. subst NamedTo (tail_of l m ls ms e) (rest.0),
     )
 
 pub name_is : (l : Letter) (ls : List Letter) → is_start l ≡ true → IsNamed (l ∷ take (name_more ls) ls)
@@ -204,7 +204,7 @@ closes_all [] = (λ n e. cc, λ l n s e. cc)
 closes_all (x ∷ xs) =
     let rest = closes_all xs in (
       λ n e. closes_step x xs (is_char 34 x) (is_char 92 x) n refl refl e (rest.0) (rest.1),
-      λ l n s e. closes_behind l x xs n s e (rest.0)
+      λ l n s e. closes_behind l x xs n s e (rest.0),
     )
 
 pub string_is : (ls : List Letter) (n : ℕ) → string_from false ls ≡ Some n → Inside ls

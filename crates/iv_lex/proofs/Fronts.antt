@@ -56,9 +56,9 @@ fits_by s k w rest n e some m h f =
     record {
       fits = omega (arith, h, c);
       kind = λ is.
-        let same : length w ≡ n = is ∙ c in
-        let front : take n (w ++ rest) ≡ w = ap (λ i. take i (w ++ rest)) (sym same) ∙ take-append_seam w rest in
-        kinded s (w ++ rest) (Some n) e m ∙ (ap (kind_by s) front ∙ f same);
+          let same : length w ≡ n = is ∙ c in
+          let front : take n (w ++ rest) ≡ w = ap (λ i. take i (w ++ rest)) (sym same) ∙ take-append_seam w rest in
+          kinded s (w ++ rest) (Some n) e m ∙ (ap (kind_by s) front ∙ f same);
       some = ap is_nothing e ∙ some;
     }
 
@@ -352,7 +352,7 @@ pub delimiter_start : (l : Letter) (ls : List Letter) (s : Start) → is_single 
 delimiter_start l ls s e c d =
     let no = single_no_word l e in
     sign_open l ls s (single_no_blank l e) c (no_cartouche l ls (other 92 Singles refl l e) (other 0x2039 Singles refl l e)) (other 34 Singles refl l e) (word_none l ls no.start no.digit no.mark no.tick)
-      (rw (other 92 Singles refl l e, single_no_sign l e, single_no_symbolic l e, e) d)
+    (rw (other 92 Singles refl l e, single_no_sign l e, single_no_symbolic l e, e) d)
 
 single_by : (l : Letter) (rest : List Letter) (c d : Bool) → is_single l ≡ true → spells (codes "(*") (l ∷ rest) ≡ c → (spells (codes "::") (l ∷ rest) || spells (codes "..") (l ∷ rest)) ≡ d → Fits (Some kind.Single) (l ∷ []) rest
 single_by l rest true d e f g =

@@ -188,20 +188,20 @@ passed_whole n ls mid h p k =
         fits = omega (arith, p.fits, opening_fits n ls, closing_fits n mid, ap length p.left, length-drop o ls, length-drop p.count (drop o ls));
         left = sym (drop-drop c (o + p.count) ls) ∙ ap (drop c) (sym (drop-drop p.count o ls) ∙ p.left);
         goes = λ d.
-          let e : suc d + 1 ≡ suc (suc d) = omega arith in
-          walk_open n (suc d) ls h
-          ∙ (ap (λ x. option_map (λ k. o + k) (Walk n x (drop o ls))) e
-          ∙ (ap (option_map (λ k. o + k)) (p.goes (suc d))
-          ∙ (counted_both o p.count (Walk n (suc (suc d)) mid)
-          ∙ (ap (option_map (λ k. o + p.count + k)) (walk_close n d mid k)
-          ∙ counted_both (o + p.count) c (Walk n (suc d) rest)))));
+            let e : suc d + 1 ≡ suc (suc d) = omega arith in
+            walk_open n (suc d) ls h
+            ∙ (ap (λ x. option_map (λ k. o + k) (Walk n x (drop o ls))) e
+            ∙ (ap (option_map (λ k. o + k)) (p.goes (suc d))
+            ∙ (counted_both o p.count (Walk n (suc (suc d)) mid)
+            ∙ (ap (option_map (λ k. o + p.count + k)) (walk_close n d mid k)
+            ∙ counted_both (o + p.count) c (Walk n (suc d) rest)))));
       };
       ends =
-        let e : 0 + 1 ≡ 1 = refl in
-        let f : o + (p.count + c) ≡ o + p.count + c = omega arith in
-        walk_open n 0 ls h
-        ∙ (ap (option_map (λ k. o + k)) (p.goes 0 ∙ ap (option_map (λ k. p.count + k)) (walk_last n mid k))
-        ∙ ap (λ x. Some x) f);
+          let e : 0 + 1 ≡ 1 = refl in
+          let f : o + (p.count + c) ≡ o + p.count + c = omega arith in
+          walk_open n 0 ls h
+          ∙ (ap (option_map (λ k. o + k)) (p.goes 0 ∙ ap (option_map (λ k. p.count + k)) (walk_last n mid k))
+          ∙ ap (λ x. Some x) f);
     }
 
 mutual
