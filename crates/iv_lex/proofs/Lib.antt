@@ -5,3 +5,8 @@ pub mod SpellingSteps
 pub mod TokenSteps
 pub mod PlaceSteps
 pub mod CutSteps
+pub mod Apart
+pub mod Counts
+pub mod Nestings
+pub mod Fronts
+pub mod Standing

@@ -4,4 +4,5 @@ pub mod Start
 pub mod Spelling
 pub mod Token
 pub mod Place
+pub mod Shape
 pub mod Cut

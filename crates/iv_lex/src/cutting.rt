@@ -1,7 +1,8 @@
 ghost use Rattle.std.specs.Prelude.{◌≡◌, ◌≤◌, ◌<◌, ◌^◌, ◌++◌, length, IfOk, IfErr, OnOk};
 ghost use Rattle.iv_term.specs.declared.want.Want.TheVariants.{Memory};
 ghost use Rattle.std.specs.List.{list_any};
-ghost use Rattle.iv_lex.specs.Letter.{is_char};
+ghost use Rattle.iv_lex.specs.Cut.{IsCut};
+ghost use Rattle.iv_lex.specs.Letter.{is_char, letters_of};
 ghost use Rattle.iv_lex.specs.Place.{AreInOrder};
 ghost use Rattle.iv_lex.specs.Token.{all_chars, count_at, first_at, kind_at, kind_by, last_end, token_list, token_of, tokens_from, tokens_of};
 
@@ -170,10 +171,12 @@ pub fn cut(alloc: Global, letters: &[Letter]) -> Mem<Vec<Token>>
     Ok(found)
 }
 
-/// The tokens of a document, in order. Fails where memory runs out.
+/// The tokens of a document, in order: each is the longest that stands at its place, and between them stand
+/// blanks and whole comments. Fails by `Memory` where memory runs out.
 pub fn tokens(alloc: Global, bytes: &[u8]) -> Mem<Vec<Token>>
     requires { length bytes.now < 2 ^ 32 }
     ensures ok { IfOk result (λ v. v.items ≡ tokens_of bytes.now) }
+    ensures cut { IfOk result (λ v. IsCut (letters_of bytes.now) v.items) }
     ensures in_order { IfOk result (λ v. AreInOrder 0 (length bytes.now) v.items) }
     ensures memory { IfErr result (λ w. w ≡ Memory) }
 {

@@ -1,11 +1,13 @@
 use crate::cutting::tokens;
+use std::alloc::Global;
+use std::process::Abort;
 use std::test::Fail;
 
 /// Each token as its kind, its offsets and its text.
-fn listed(rt: &HostRuntime, document: &[u8]) -> Result<String, Fail> {
-    let mut out = String::new(rt.alloc());
+fn listed(alloc: Global, document: &[u8]) -> Result<String, Fail> {
+    let mut out = String::new(alloc);
     if document.len() <= 4_194_304 {
-        for token in &tokens(rt.alloc(), document)? {
+        for token in &tokens(alloc, document)? {
             let kind = token.kind;
             let at = token.at.0;
             let end = token.end.0;
@@ -19,77 +21,188 @@ fn listed(rt: &HostRuntime, document: &[u8]) -> Result<String, Fail> {
     Ok(out)
 }
 
-#[test]
-fn kinds_and_their_neighbours(rt: HostRuntime) -> Result<(), Fail> {
-    let rows = [
-        (
-            "==> == ..  ...",
-            "Sym 0-3 ==>;Sym 4-6 ==;Single 7-9 ..;Single 11-13 ..;Single 13-14 .;",
-        ),
-        (
-            "?x.1 ?x. x.y. 'a x'",
-            "Var 0-4 ?x.1;Var 5-7 ?x;Single 7-8 .;Long 9-12 x.y;Single 12-13 .;Tvar 14-16 'a;Ident 17-19 x';",
-        ),
-        (
-            ":: : \\<foo> \\<foo x\u{3BB}y",
-            "Single 0-2 ::;Single 3-4 :;Sym 5-11 \\<foo>;Bad 12-13 ;Sym 13-14 <;Ident 14-17 foo;Ident 18-19 x;Sym 19-21 %;Ident 21-22 y;",
-        ),
-        (
-            "!!\\<And>\u{22C0} %\u{3BB}",
-            "Sym 0-2 !!;Sym 2-8 !!;Sym 8-11 !!;Sym 12-13 %;Sym 13-15 %;",
-        ),
-    ];
+/// Whether each document has the tokens that stand beside it.
+fn compare(rt: &impl Abort, alloc: Global, rows: &[(&str, &str)]) -> Result<(), Fail> {
     for (document, expected) in rows {
-        let found = listed(&rt, document.as_bytes())?;
-        assert_eq!(rt; found.as_str(), expected);
+        let found = listed(alloc, document.as_bytes())?;
+        assert_eq!(rt; found.as_str(), *expected);
     }
     Ok(())
 }
 
-#[test]
-fn comments_and_cartouches(rt: HostRuntime) -> Result<(), Fail> {
-    let rows = [
-        ("(* (* \\<open> *) *)x", "Ident 19-20 x;"),
-        (
-            "\\<open> (* \u{2039}\\<close>\u{203A} y",
-            "Cart 0-25  (* \u{2039}\\<close>;Ident 26-27 y;",
-        ),
-        ("z (* (*)", "Ident 0-1 z;Bad 2-8 ;"),
-        ("\\<open> \\<open> \\<close>", "Bad 0-24 ;"),
-    ];
+/// The same, of bytes.
+fn compare_bytes(rt: &impl Abort, alloc: Global, rows: &[(&[u8], &str)]) -> Result<(), Fail> {
     for (document, expected) in rows {
-        let found = listed(&rt, document.as_bytes())?;
-        assert_eq!(rt; found.as_str(), expected);
+        let found = listed(alloc, document)?;
+        assert_eq!(rt; found.as_str(), *expected);
     }
     Ok(())
 }
 
+// Names, numbers and variables, and what stands beside them.
+#[test]
+fn names_and_numbers(rt: HostRuntime) -> Result<(), Fail> {
+    let rows = [
+        (
+            "abc a1_b' \u{4E2D}\u{6587} x\u{301}y 0 007 7a _x",
+            "Ident 0-3 abc;Ident 4-9 a1_b';Ident 10-16 \u{4E2D}\u{6587};Ident 17-21 x\u{301}y;Nat 22-23 0;Nat 24-27 007;Nat 28-29 7;Ident 29-30 a;Sym 31-32 _;Ident 32-33 x;",
+        ),
+        (
+            "x.y.z x.y. x..y .x x. y",
+            "Long 0-5 x.y.z;Long 6-9 x.y;Single 9-10 .;Ident 11-12 x;Single 12-14 ..;Ident 14-15 y;Single 16-17 .;Ident 17-18 x;Ident 19-20 x;Single 20-21 .;Ident 22-23 y;",
+        ),
+        (
+            "?x ?x.1 ?x. ?x.y ?x.01 ?1 ??x ?x'.2",
+            "Var 0-2 ?x;Var 3-7 ?x.1;Var 8-10 ?x;Single 10-11 .;Var 12-14 ?x;Single 14-15 .;Ident 15-16 y;Var 17-22 ?x.01;Sym 23-24 ?;Nat 24-25 1;Sym 26-28 ??;Ident 28-29 x;Var 30-35 ?x'.2;",
+        ),
+        (
+            "'a 'a' ' '1 x' x'y'",
+            "Tvar 0-2 'a;Tvar 3-6 'a';Bad 7-8 ;Bad 9-10 ;Nat 10-11 1;Ident 12-14 x';Ident 15-19 x'y';",
+        ),
+        (
+            "a\u{3BB}b \u{3BB}x x.\u{3BB} ?\u{3BB}",
+            "Ident 0-1 a;Sym 1-3 %;Ident 3-4 b;Sym 5-7 %;Ident 7-8 x;Ident 9-10 x;Single 10-11 .;Sym 11-13 %;Sym 14-15 ?;Sym 15-17 %;",
+        ),
+    ];
+    compare(&rt, rt.alloc(), rows.as_slice())
+}
+
+// Runs of symbols, symbols by name and by character.
+#[test]
+fn symbols(rt: HostRuntime) -> Result<(), Fail> {
+    let rows = [
+        (
+            "==> == = ==>== =?x !!\\<And>\u{22C0}",
+            "Sym 0-3 ==>;Sym 4-6 ==;Sym 7-8 =;Sym 9-14 ==>==;Sym 15-17 =?;Ident 17-18 x;Sym 19-21 !!;Sym 21-27 !!;Sym 27-30 !!;",
+        ),
+        (
+            "\\<Longrightarrow>\u{27F9} \\<equiv>\u{2261} %\\<lambda>\u{3BB} \\<Rightarrow>\u{21D2}",
+            "Sym 0-17 ==>;Sym 17-20 ==>;Sym 21-29 ==;Sym 29-32 ==;Sym 33-34 %;Sym 34-43 %;Sym 43-45 %;Sym 46-59 =>;Sym 59-62 =>;",
+        ),
+        (
+            "\\<lbrakk>\u{27E6} \\<rbrakk>\u{27E7} [| |] \\<bar>\u{A6}|",
+            "Sym 0-9 [|;Sym 9-12 [|;Sym 13-22 |];Sym 22-25 |];Single 26-27 [;Sym 27-28 |;Sym 29-30 |;Single 30-31 ];Sym 32-38 \\<bar>;Sym 38-40 \\<bar>;Sym 40-41 |;",
+        ),
+        (
+            "\\<foo> \\<foo \\<> \\<f1> \\ \\<close>\u{203A}",
+            "Sym 0-6 \\<foo>;Bad 7-8 ;Sym 8-9 <;Ident 9-12 foo;Bad 13-14 ;Sym 14-16 <>;Bad 17-18 ;Sym 18-19 <;Ident 19-21 f1;Sym 21-22 >;Bad 23-24 ;Sym 25-33 \\<close>;Sym 33-36 \\<close>;",
+        ),
+        (
+            "!#$%&*+-/<=>?@^_|~ `^",
+            "Sym 0-18 !#$%&*+-/<=>?@^_|~;Bad 19-20 ;Sym 20-21 ^;",
+        ),
+    ];
+    compare(&rt, rt.alloc(), rows.as_slice())
+}
+
+// Delimiters of one and of two characters.
+#[test]
+fn delimiters(rt: HostRuntime) -> Result<(), Fail> {
+    let rows = [
+        (
+            ":: : ::: . .. ... ....",
+            "Single 0-2 ::;Single 3-4 :;Single 5-7 ::;Single 7-8 :;Single 9-10 .;Single 11-13 ..;Single 14-16 ..;Single 16-17 .;Single 18-20 ..;Single 20-22 ..;",
+        ),
+        (
+            "()[]{},;( *",
+            "Single 0-1 (;Single 1-2 );Single 2-3 [;Single 3-4 ];Single 4-5 {;Single 5-6 };Single 6-7 ,;Single 7-8 ;;Single 8-9 (;Sym 10-11 *;",
+        ),
+    ];
+    compare(&rt, rt.alloc(), rows.as_slice())
+}
+
+// Comments that nest, cross and do not close.
+#[test]
+fn comments(rt: HostRuntime) -> Result<(), Fail> {
+    let rows = [
+        (
+            "(**)x (* (* *) *)y (* \\<open> \" *)z",
+            "Ident 4-5 x;Ident 17-18 y;Ident 34-35 z;",
+        ),
+        (
+            "a(* *)b *) (* *) *)",
+            "Ident 0-1 a;Ident 6-7 b;Sym 8-9 *;Single 9-10 );Sym 17-18 *;Single 18-19 );",
+        ),
+        ("x (*)", "Ident 0-1 x;Bad 2-5 ;"),
+        ("(* (* *) y", "Bad 0-10 ;"),
+    ];
+    compare(&rt, rt.alloc(), rows.as_slice())
+}
+
+// Cartouches that nest, cross and do not close, in both spellings.
+#[test]
+fn cartouches(rt: HostRuntime) -> Result<(), Fail> {
+    let rows = [
+        (
+            "\\<open>\\<close>\\<open>a \\<open>b\\<close>\\<close>c",
+            "Cart 0-15 ;Cart 15-48 a \\<open>b\\<close>;Ident 48-49 c;",
+        ),
+        (
+            "\u{2039}a\\<close>\\<open>\u{2039}b\u{203A}\u{203A} \\<open> (* \\<close> *)",
+            "Cart 0-12 a;Cart 12-29 \u{2039}b\u{203A};Cart 30-49  (* ;Sym 50-51 *;Single 51-52 );",
+        ),
+        (
+            "\\<open>\"\\<close>\"\\<open>\"",
+            "Cart 0-16 \";Str 16-25 \\<open>;",
+        ),
+        ("x\\<open> \\<open> \\<close>", "Ident 0-1 x;Bad 1-25 ;"),
+        ("\\<open>", "Bad 0-7 ;"),
+        ("y\u{2039}", "Ident 0-1 y;Bad 1-4 ;"),
+    ];
+    compare(&rt, rt.alloc(), rows.as_slice())
+}
+
+// Strings with each escape, with line feeds and without an end.
 #[test]
 fn strings(rt: HostRuntime) -> Result<(), Fail> {
     let rows = [
-        ("\"a\\\"\\\\\\n\"x", "Str 0-9 a\"\\\\n;Ident 9-10 x;"),
-        ("\"a\nb\" \"c", "Str 0-5 a\nb;Bad 6-8 ;"),
         (
-            "\t\r\n\u{4E2D} \"\u{E9}\"",
-            "Ident 3-6 \u{4E2D};Str 7-11 \u{E9};",
+            "\"\"\"a\\\"b\" \"c\\\\\" \"\\n\\x\\\\\\\"\"d",
+            "Str 0-2 ;Str 2-8 a\"b;Str 9-14 c\\;Str 15-25 \\n\\x\\\";Ident 25-26 d;",
         ),
+        (
+            "\"a\nb\r\nc\"\"(* \\<open>\"",
+            "Str 0-8 a\nb\r\nc;Str 8-20 (* \\<open>;",
+        ),
+        ("x\"a\\\"", "Ident 0-1 x;Bad 1-5 ;"),
+        ("y \"\\\\\\\"", "Ident 0-1 y;Bad 2-7 ;"),
+        ("\"", "Bad 0-1 ;"),
     ];
-    for (document, expected) in rows {
-        let found = listed(&rt, document.as_bytes())?;
-        assert_eq!(rt; found.as_str(), expected);
-    }
-    Ok(())
+    compare(&rt, rt.alloc(), rows.as_slice())
 }
 
+// Blanks, wide characters, and characters that begin nothing.
+#[test]
+fn blanks_and_strays(rt: HostRuntime) -> Result<(), Fail> {
+    let rows = [
+        (
+            "\ta\r\nb\u{B}c \u{A0}x",
+            "Ident 1-2 a;Ident 4-5 b;Bad 5-6 ;Ident 6-7 c;Bad 8-10 ;Ident 10-11 x;",
+        ),
+        (
+            "\u{FEFF}\u{1F600} \u{E9}\u{20AC}\"\u{4E2D}\"",
+            "Bad 0-3 ;Bad 3-7 ;Ident 8-10 \u{E9};Bad 10-13 ;Str 13-18 \u{4E2D};",
+        ),
+    ];
+    compare(&rt, rt.alloc(), rows.as_slice())
+}
+
+// Bytes that are no characters, alone and inside of what is closed.
 #[test]
 fn bytes_that_are_no_characters(rt: HostRuntime) -> Result<(), Fail> {
-    let found = listed(
-        &rt,
-        b"a\xffb \"\xff\" (*\xff*)\\<open>\xff\\<close>\xe2\x82".as_slice(),
-    )?;
-    assert_eq!(rt;
-        found.as_str(),
-        "Ident 0-1 a;Bad 1-2 ;Ident 2-3 b;Bad 4-7 ;Bad 13-29 ;Bad 29-30 ;Bad 30-31 ;"
-    );
-    Ok(())
+    let rows = [
+        (
+            b"a\xffb \"\xff\"c (*\xff*)d \\<open>\xff\\<close>e".as_slice(),
+            "Ident 0-1 a;Bad 1-2 ;Ident 2-3 b;Bad 4-7 ;Ident 7-8 c;Ident 14-15 d;Bad 16-32 ;Ident 32-33 e;",
+        ),
+        (
+            b"\xe2\x82 \xc3( \xc0\xaf \xed\xa0\x80".as_slice(),
+            "Bad 0-1 ;Bad 1-2 ;Bad 3-4 ;Single 4-5 (;Bad 6-7 ;Bad 7-8 ;Bad 9-10 ;Bad 10-11 ;Bad 11-12 ;",
+        ),
+        (
+            b"\xf4\x90\x80\x80\xf0\x9f\x98\x80".as_slice(),
+            "Bad 0-1 ;Bad 1-2 ;Bad 2-3 ;Bad 3-4 ;Bad 4-8 ;",
+        ),
+    ];
+    compare_bytes(&rt, rt.alloc(), rows.as_slice())
 }

@@ -174,11 +174,6 @@ limited_error T U P Q w l = record { number = λ e. l.number (same_error U T w N
 pub limited_ok : {T : Type 0} (P Q : Type 0) (y : T) → (∥ Q ∥₁ → ∥ P ∥₁) → Limited P (Ok y) Q
 limited_ok P Q y f = record { number = λ e. absurd (let bad : ⊥ = cc in bad); shrinks = f }
 
--- the leaves found so far and those to come are all leaves, and the cause has not grown
-pub record Gathering {A : Type 0} (found_and_left all : List A) (now before : Type 0) : Type 0 where
-  pub leaves : found_and_left ≡ all
-  pub shrinks : ∥ now ∥₁ → ∥ before ∥₁
-
 -- leaves that are left were leaves before, and so was the one that came
 pub some_left : {A : Type 0} (P : A → Type 0) (m : List (Moment A)) (s : ℕ) (r : Result (Option A) Want) (n : List (Moment A)) (t : ℕ) → Pulled m s r n t → MeetsSome P n → MeetsSome P m
 some_left P m s (Ok (Some x)) n t p h = some_before P m p.passed (meets x ∷ n) p.order (inr h)

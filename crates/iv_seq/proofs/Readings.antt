@@ -1,9 +1,9 @@
 -- A search tree and its moments are two readings of one search.
-use Rattle.std.proofs.Common.{◌≡◌, ℕ, zero, suc, ◌+◌, ◌-◌, ◌≤◌, Bool, true, false, cond, ◌||◌, List, [], ◌∷◌, ◌++◌, Option, None, Some, Result, Ok, Err, refl, ap, sym, ◌∙◌, arith, append_assoc, length}
+use Rattle.std.proofs.Common.{◌≡◌, ℕ, zero, suc, ◌+◌, ◌-◌, ◌<◌, ◌≤◌, Bool, true, false, cond, ◌||◌, List, [], ◌∷◌, ◌++◌, Option, None, Some, Result, Ok, Err, refl, ap, sym, ◌∙◌, arith, append_assoc, length}
 use Rattle.std.proofs.lemmas.List.{append-nil}
 use Rattle.iv_term.specs.declared.want.Want.{Want}
 use Rattle.iv_seq.specs.SearchTree.{SearchTree, none, one, join, work, leaves, has_leaf, before, bind, or_else, take, lead, up_to, rest}
-use Rattle.iv_seq.specs.Moments.{Moment, begins, meets, moments_of, leaves_in, meets_any, work_before, bound, either, cut, lead_in, within, after, works}
+use Rattle.iv_seq.specs.Moments.{Moment, begins, meets, moments_of, leaves_in, meets_any, work_before, work_in, bound, either, cut, lead_in, within, after, works}
 use Rattle.iv_seq.specs.Pull.{Pulled}
 use Rattle.iv_seq.specs.Laws.{PullSays}
 
@@ -80,6 +80,16 @@ read_work (join t u) k =
     rw (work-append (moments_of t) (moments_of u) k, read_work t k, read_leaves t, read_work u (k - length (leaves t))) refl
 read_work (work t) zero = refl
 read_work (work t) (suc k) = ap suc (read_work t (suc k))
+
+-- all work comes before a leaf that isn't there
+work-past : {A : Type 0} (m : List (Moment A)) (k : ℕ) → length (leaves_in m) < k → work_before m k ≡ work_in m
+work-past m zero h = absurd (omega (arith, h))
+work-past [] (suc k) h = refl
+work-past (begins ∷ m) (suc k) h = ap suc (work-past m (suc k) h)
+work-past (meets x ∷ m) (suc k) h = work-past m k (omega (arith, h))
+
+pub read_all_work : {A : Type 0} (t : SearchTree A) (k : ℕ) → length (leaves t) < k → before t k ≡ work_in (moments_of t)
+read_all_work t k h = sym (read_work t k) ∙ work-past (moments_of t) k (rw (read_leaves t) h)
 
 pub read_bind : {A B : Type 0} (t : SearchTree A) (f : A → SearchTree B) → moments_of (bind t f) ≡ bound (moments_of t) (λ x. moments_of (f x))
 read_bind none f = refl
@@ -160,6 +170,7 @@ pull_says t s (Ok (Some y)) n u p =
     record {
       first = λ x e. let q : y ≡ x = cc in (rw (b, ← q) l, sym a);
       none = λ e. absurd (let bad : ⊥ = cc in bad);
+      no_leaf = λ k o e. absurd (let bad : ⊥ = (let h : [] ≡ y ∷ leaves_in n = sym k ∙ l in cc) in bad);
       kept = λ w e. absurd (let bad : ⊥ = cc in bad);
       no_dearer = λ w e k. absurd (let bad : ⊥ = cc in bad);
       cost = cost_read t s u p.cost;
@@ -167,6 +178,7 @@ pull_says t s (Ok (Some y)) n u p =
 pull_says {A} t s (Ok None) n u p = record {
   first = λ x e. absurd (let bad : ⊥ = cc in bad);
   none = λ e. (sym (read_leaves t) ∙ (ap leaves_in p.order ∙ (leaves-works p.passed n ∙ ap leaves_in p.ended)), p.ended);
+  no_leaf = λ k o e. cc;
   kept = λ w e. absurd (let bad : ⊥ = cc in bad);
   no_dearer = λ w e k. absurd (let bad : ⊥ = cc in bad);
   cost = cost_read t s u p.cost;
@@ -174,6 +186,7 @@ pull_says {A} t s (Ok None) n u p = record {
 pull_says t s (Err v) n u p = record {
   first = λ x e. absurd (let bad : ⊥ = cc in bad);
   none = λ e. absurd (let bad : ⊥ = cc in bad);
+  no_leaf = λ k o e. absurd (let bad : ⊥ = cc in bad);
   kept = λ w e. sym (leaves-works p.passed n) ∙ (ap leaves_in (sym p.order) ∙ read_leaves t);
   no_dearer = λ w e k. rw (← read_work t k, p.order) (no_dearer p.passed n k);
   cost = cost_read t s u p.cost;

@@ -1,8 +1,8 @@
 -- What the laws say: a tree and its moments are two readings of one search, and a pull gives its first leaf.
-use Rattle.std.specs.Prelude.{◌≡◌, ℕ, ◌+◌, ◌-◌, ◌≤◌, true, List, [], ◌∷◌, Option, None, Some, Result, Ok, Err}
+use Rattle.std.specs.Prelude.{◌≡◌, ℕ, ◌+◌, ◌-◌, ◌≤◌, ◌<◌, length, true, List, [], ◌∷◌, Option, None, Some, Result, Ok, Err}
 use Rattle.iv_term.specs.declared.want.Want.{Want}
 use Rattle.iv_seq.specs.SearchTree.{SearchTree, leaves, has_leaf, before, bind, or_else, take, rest}
-use Rattle.iv_seq.specs.Moments.{Moment, moments_of, leaves_in, work_before, bound, either, cut, after}
+use Rattle.iv_seq.specs.Moments.{Moment, moments_of, leaves_in, work_before, work_in, bound, either, cut, after}
 use Rattle.iv_seq.specs.Pull.{Pulled}
 
 -- leaves and work of a tree are those of its moments
@@ -11,6 +11,10 @@ ReadsLeaves A = (t : SearchTree A) → leaves_in (moments_of t) ≡ leaves t
 
 abbrev pub ReadsWork : (A : Type 0) → Type 0
 ReadsWork A = (t : SearchTree A) (k : ℕ) → work_before (moments_of t) k ≡ before t k
+
+-- and all work comes before a leaf that isn't there
+abbrev pub ReadsAllWork : (A : Type 0) → Type 0
+ReadsAllWork A = (t : SearchTree A) (k : ℕ) → length (leaves t) < k → before t k ≡ work_in (moments_of t)
 
 -- to build a tree is to build its moments
 abbrev pub ReadsBind : (A B : Type 0) → Type 0
@@ -39,6 +43,7 @@ pub record PullSays {A : Type 0} (t : SearchTree A) (start : ℕ) (result : Resu
   pub first : (x : A) → result ≡ Ok (Some x) → (leaves t ≡ x ∷ leaves (rest t)) × (new ≡ moments_of (rest t))
   -- no leaf comes exactly where there is none
   pub none : result ≡ Ok None → (leaves t ≡ []) × (new ≡ [])
+  pub no_leaf : leaves t ≡ [] → (o : Option A) → result ≡ Ok o → o ≡ None
   -- after an error the leaves are the same, and the work before none of them has grown
   pub kept : (e : Want) → result ≡ Err e → leaves_in new ≡ leaves t
   pub no_dearer : (e : Want) → result ≡ Err e → (k : ℕ) → work_before new k ≤ before t k

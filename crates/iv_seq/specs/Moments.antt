@@ -38,6 +38,12 @@ work_before [] (suc k) = 0
 work_before (begins ∷ m) (suc k) = suc (work_before m (suc k))
 work_before (meets x ∷ m) (suc k) = work_before m k
 
+-- all work
+abbrev pub work_in : {A : Type 0} → List (Moment A) → ℕ
+work_in [] = 0
+work_in (begins ∷ m) = suc (work_in m)
+work_in (meets x ∷ m) = work_in m
+
 -- the search f x in the place of each leaf x
 abbrev pub bound : {A B : Type 0} → List (Moment A) → (A → List (Moment B)) → List (Moment B)
 bound [] f = []

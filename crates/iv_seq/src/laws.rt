@@ -1,11 +1,12 @@
 //! The laws of search trees, each as the contract of a function that does nothing.
-ghost use Rattle.iv_seq.specs.Laws.{ReadsLeaves, ReadsWork, ReadsBind, ReadsOrElse, ReadsTake, ReadsRest, ReadsAll, RestCosts, PullsTree};
+ghost use Rattle.iv_seq.specs.Laws.{ReadsLeaves, ReadsWork, ReadsAllWork, ReadsBind, ReadsOrElse, ReadsTake, ReadsRest, ReadsAll, RestCosts, PullsTree};
 
 /// A search tree and its moments are two readings of one search: they have the same leaves and the same
 /// work before each, and trees are bound, tried, cut and left behind as their moments are.
 pub fn trees_are_read_as_moments<A, B>()
     ensures leaves { ReadsLeaves A }
     ensures work { ReadsWork A }
+    ensures all_work { ReadsAllWork A }
     ensures bind { ReadsBind A B }
     ensures or_else { ReadsOrElse A }
     ensures take { ReadsTake A }

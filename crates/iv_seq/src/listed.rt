@@ -1,5 +1,6 @@
 ghost use Rattle.std.specs.Prelude.{◌≡◌, ◌↔◌, reverse};
 ghost use Rattle.iv_seq.specs.Moments.{listed};
+ghost use Rattle.iv_seq.specs.Pull.{Same};
 
 use crate::lazy::LazySeq;
 use crate::steps::Steps;
@@ -17,6 +18,7 @@ impl<T: Drop> Listed<T> {
     /// A sequence with `items` as its leaves. Takes no memory.
     pub fn new(items: Vec<T>) -> Listed<T>
         ensures search { ⟦<Listed<T> as LazySeq>⟧.search result ≡ listed items.items }
+        ensures fits { Same (⟦<Listed<T> as LazySeq>⟧.fits result) (λ _. Unit {0}) }
         ensures overflows { ⟦<Listed<T> as LazySeq>⟧.overflows result → ⊥ }
     {
         let mut items = items;

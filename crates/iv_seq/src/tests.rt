@@ -1,6 +1,6 @@
-ghost use Rattle.std.specs.Prelude.{◌≡◌, ◌<◌, ◌≤◌, ◌+◌, IfOk};
+ghost use Rattle.std.specs.Prelude.{◌≡◌, ◌<◌, ◌≤◌, ◌+◌, ◌-◌, IfOk};
 ghost use Rattle.iv_seq.specs.Countdown.{countdown};
-ghost use Rattle.iv_seq.specs.Moments.{leaves_in};
+ghost use Rattle.iv_seq.specs.Moments.{leaves_in, work_before};
 
 use crate::*;
 use iv_term::Mem;
@@ -56,6 +56,46 @@ impl Follow for Below {
     }
 }
 
+// Admits the numbers up to one.
+#[derive(Drop)]
+struct UpTo {
+    most: u64,
+}
+
+impl Witness for UpTo {
+    type Of = u64;
+
+    ghost admits = { λ w x. x ≤ w.most };
+}
+
+// Leads from a number to the numbers below what it is short of one, and takes no number above that.
+#[derive(Drop)]
+struct Short {
+    of: u64,
+}
+
+impl Follow for Short {
+    type In = u64;
+
+    type Out = Countdown;
+
+    ghost means = { λ f x. countdown (f.of - x) };
+
+    ghost takes = { λ f x. x ≤ f.of };
+
+    ghost leads = { λ _ _. Unit {0} };
+
+    ghost overflows = { λ _ _. ⊥ };
+
+    fn follow(&self, item: &u64) -> Mem<Countdown> {
+        Ok(Countdown {
+            left: self.of - *item,
+        })
+    }
+}
+
+type Admitted = Bind<Vouched<Countdown, UpTo>, Short>;
+
 // All leaves of a sequence, with a count of its own.
 fn leaves<S: LazySeq, L: Ledger>(alloc: Global, blank: Blank, sequence: S) -> Mem<Vec<S::Item>>
     requires name { blank.name ≡ L.name }
@@ -68,20 +108,34 @@ fn leaves<S: LazySeq, L: Ledger>(alloc: Global, blank: Blank, sequence: S) -> Me
     gathered(alloc, &mut sequence, &mut steps)
 }
 
-// The first two leaves of a sequence.
+// The first two leaves of a sequence. No more is done than they need.
 fn first_two<S: LazySeq, L: Ledger>(
-    blank: Blank,
-    sequence: S,
+    sequence: &mut S,
+    steps: &mut Steps<L>,
 ) -> Mem<(Option<S::Item>, Option<S::Item>)>
+    ensures cost { steps.new ≤ steps.old + work_before (S.search sequence.old) 2 }
+{
+    let first = sequence.pull(steps)?;
+    let second = sequence.pull(steps)?;
+    Ok((first, second))
+}
+
+// The first two leaves of 2^40 items with many leaves each, at the cost of three pieces of work.
+fn first_two_of_many<L: Ledger>(steps: &mut Steps<L>) -> Mem<(Option<u64>, Option<u64>)>
+    ensures cost { steps.new ≤ steps.old + 3 }
+{
+    let mut many = Bind::new(Countdown { left: 1 << 40 }, Below {});
+    first_two(&mut many, steps)
+}
+
+// The same, with a count of its own.
+fn counted<L: Ledger>(blank: Blank) -> Mem<(Option<u64>, Option<u64>)>
     requires name { blank.name ≡ L.name }
     requires parts { blank.parts ≡ L.parts }
     requires some { 0 < L.parts }
 {
-    let mut sequence = sequence;
     let mut steps = Steps::<L>::new(blank);
-    let first = sequence.pull(&mut steps)?;
-    let second = sequence.pull(&mut steps)?;
-    Ok((first, second))
+    first_two_of_many(&mut steps)
 }
 
 #[test]
@@ -144,9 +198,17 @@ fn one_in_another(rt: HostRuntime) -> Result<(), Fail> {
 // A sequence of 2^40 items, each with many leaves, gives its first two leaves at once.
 #[test]
 fn no_more_is_done_than_is_asked_for(rt: HostRuntime) -> Result<(), Fail> {
-    let many = Bind::new(Countdown { left: 1 << 40 }, Below {});
-    let found = first_two::<Bind<Countdown, Below>, Brand>(Blank::new(1), many)?;
+    let found = counted::<Brand>(Blank::new(1))?;
     assert_eq!(rt; found.0, Some((1 << 40) - 2));
     assert_eq!(rt; found.1, Some((1 << 40) - 3));
+    Ok(())
+}
+
+#[test]
+fn items_that_a_witness_admits(rt: HostRuntime) -> Result<(), Fail> {
+    let alloc = rt.alloc();
+    let items = Vouched::new(Countdown { left: 3 }, UpTo { most: 3 });
+    let found = leaves::<Admitted, Brand>(alloc, Blank::new(1), Bind::new(items, Short { of: 3 }))?;
+    assert_eq!(rt; found.as_slice(), [0, 1, 0, 2, 1, 0].as_slice());
     Ok(())
 }

@@ -1,4 +1,4 @@
 use Rattle.iv_seq.proofs.tests.no_more_is_done_than_is_asked_for.Given as goal
 
-abbrev pub ghosts-first_two : goal.ghosts-first_two
-ghosts-first_two g a = record { name = a.blank.name; parts = a.blank.parts }
+abbrev pub ghosts-counted : goal.ghosts-counted
+ghosts-counted g a = record { name = a.blank.name; parts = a.blank.parts }
