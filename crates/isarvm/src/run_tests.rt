@@ -1,6 +1,4 @@
 //! Whole runs over memory.
-ghost use Rattle.std.specs.Prelude.{◌≤◌};
-
 use crate::run::run_isar;
 use crate::status::Status;
 use iv_io::{MemSink, MemSource};
@@ -12,10 +10,6 @@ use std::test::Fail;
 /// Three lines, and their report.
 const THREE: &str =
     "lemma a: \"PROP A ==> PROP A\" by assumption\nlemma b: \"PROP A\" by assumption\noops end\n";
-
-const FIRST_LINE: &str = "theorem a: PROP ?A ==> PROP ?A\n";
-
-const SECOND_LINE: &str = "refused 2:19 by empty\n";
 
 const THREE_REPORT: &str = "theorem a: PROP ?A ==> PROP ?A\nrefused 2:19 by empty\n";
 
@@ -35,9 +29,8 @@ fn run(
     piece: usize,
     read_fails: &[u64],
     write_fails: &[u64],
-) -> Result<Ended, Fail>
-    requires { 1 ≤ piece }
-{
+) -> Result<Ended, Fail> {
+    let piece = if piece == 0 { 1 } else { piece };
     let mut words = Vec::new(alloc);
     if !word.is_empty() {
         words.push(String::from_str(alloc, word)?)?;
@@ -128,38 +121,39 @@ fn spaced(alloc: Global, blanks: usize) -> Result<Vec<u8>, Fail> {
     Ok(document)
 }
 
-/// How many calls it takes to move so many bytes in pieces, each of at most 4,096 bytes.
-fn calls(bytes: usize, piece: usize) -> u64
-    requires { 1 ≤ piece }
-{
-    let piece = if piece < 4096 { piece } else { 4096 };
-    bytes.div_ceil(piece) as u64
-}
+/// The size of a piece, how many spaces the document has at its end, and how many reads and writes it takes.
+const PIECES: [(usize, usize, u64, u64); 5] = [
+    (1, 0, 86, 53),
+    (2, 0, 44, 27),
+    (4095, 9000, 4, 2),
+    (4096, 9000, 4, 2),
+    (4097, 9000, 4, 2),
+];
 
 #[test]
 fn failing_calls(rt: HostRuntime) -> Result<(), Fail> {
-    for (piece, blanks) in [(1, 0), (2, 0), (4095, 9000), (4096, 9000), (4097, 9000)] {
+    for (piece, blanks, reads, writes) in PIECES {
         let document = spaced(rt.alloc(), blanks)?;
-        for call in 1..=calls(document.len(), piece) + 1 {
+        for call in 0..reads {
             let ended = run(
                 rt.alloc(),
                 "check",
                 document.as_slice(),
                 piece,
-                &[call],
+                &[call + 1],
                 &[],
             )?;
             assert_eq!(rt; ended.status, Status::ReadFault);
             assert_eq!(rt; ended.written.len(), 0);
         }
-        for call in 1..=calls(FIRST_LINE.len(), piece) + calls(SECOND_LINE.len(), piece) {
+        for call in 0..writes {
             let ended = run(
                 rt.alloc(),
                 "check",
                 document.as_slice(),
                 piece,
                 &[],
-                &[call],
+                &[call + 1],
             )?;
             assert_eq!(rt; ended.status, Status::WriteFault);
             assert!(rt;
@@ -168,6 +162,8 @@ fn failing_calls(rt: HostRuntime) -> Result<(), Fail> {
                     .starts_with(ended.written.as_slice())
             );
         }
+        let ended = run(rt.alloc(), "check", document.as_slice(), piece, &[], &[])?;
+        assert_eq!(rt; ended.written.as_slice(), THREE_REPORT.as_bytes());
     }
     Ok(())
 }
