@@ -1,0 +1,4 @@
+pub mod Base
+pub mod Raise
+pub mod Eta
+pub mod Put

@@ -1,0 +1,4 @@
+pub mod Typing
+pub mod Index
+pub mod Hsub
+pub mod Made

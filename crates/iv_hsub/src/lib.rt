@@ -1,0 +1,3 @@
+//! Terms that compute: raising, hereditary substitution, abstraction, and the normal form of `!!` before `==>`.
+#![tactic(auto)]
+
