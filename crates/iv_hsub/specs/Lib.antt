@@ -2,3 +2,4 @@ pub mod Typing
 pub mod Index
 pub mod Hsub
 pub mod Made
+pub mod Bounds

@@ -1,5 +1,5 @@
 -- The indices and depths that the definitions make on the way, where they could be too great for the program (of this project).
-use Rattle.std.specs.Prelude.{ℕ, zero, suc, ◌+◌, ◌≤◌, List, [], ◌∷◌, ◌++◌, nat_eq, nat_lt, Any, if◌then◌else◌}
+use Rattle.std.specs.Prelude.{ℕ, zero, suc, ◌+◌, ◌≤◌, List, [], ◌∷◌, ◌++◌, nat_eq, nat_lt, ◌⊎◌, if◌then◌else◌}
 use Rattle.iv_term.specs.declared.typ.Typ.{Typ}
 use Rattle.iv_term.specs.declared.term.Head.{Head}
 use Rattle.iv_term.specs.declared.term.Head.TheVariants.{Bound}
@@ -8,9 +8,10 @@ use Rattle.iv_term.specs.declared.term.Terms.{Terms}
 use Rattle.iv_term.specs.declared.term.Term.TheBlock.{Spine, Nil}
 use Rattle.iv_term.specs.Term.{lam, tm_cons}
 
--- a number is 4,294,967,295 or more
+-- one of some numbers is 4,294,967,295 or more
 abbrev pub IsPast : List ℕ → Type 0
-IsPast ns = Any (λ n. 4294967295 ≤ n) ns
+IsPast [] = ⊥
+IsPast (n ∷ ns) = (4294967295 ≤ n) ⊎ IsPast ns
 
 -- the numbers that raising makes
 abbrev pub made_raise_head : ℕ → ℕ → Head → List ℕ

@@ -21,7 +21,11 @@ abbrev pub second_typ : Typ → Types → Typ
 second_typ d Nil = d
 second_typ d (ty_cons a rest) = first_typ d rest
 
--- the result type of a type of functions; any other type itself
+-- the argument type and the result type of a type of functions; any other type itself
+unfoldable pub dom : Typ → Typ
+dom (Con c args) = first_typ (Con c args) args
+dom a = a
+
 unfoldable pub cod : Typ → Typ
 cod (Con c args) = second_typ (Con c args) args
 cod a = a

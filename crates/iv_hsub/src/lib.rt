@@ -1,3 +1,14 @@
-//! Terms that compute: raising, hereditary substitution, abstraction, and the normal form of `!!` before `==>`.
+//! Terms that compute: the part of the terms' layer above the values of `iv_term`.
+//!
+//! Typing, raising, hereditary substitution, abstraction, and the normal form that has each `!!` in front of
+//! `==>`. Each call is an equation with a definition of `specs/`; what holds of the definitions is in [`laws`].
 #![tactic(auto)]
 
+pub mod contraction;
+pub mod looseness;
+pub mod raising;
+pub mod typing;
+
+pub use contraction::{contracts, eta};
+pub use looseness::loose;
+pub use raising::raise;

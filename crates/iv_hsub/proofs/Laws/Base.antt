@@ -5,7 +5,7 @@ use Rattle.iv_term.specs.declared.typ.Typ.{Typ}
 use Rattle.iv_term.specs.declared.typ.Types.{Types}
 use Rattle.iv_term.specs.declared.typ.Typ.TheBlock.{Con, Fixed, Schematic, Nil}
 use Rattle.iv_term.specs.Typ.{prop, fun, ty_cons}
-use Rattle.iv_hsub.specs.Typing.{cod, types_len, type_at}
+use Rattle.iv_hsub.specs.Typing.{dom, cod, types_len, type_at}
 
 -- two numbers in their order, with what the tests say
 pub lt_cases : (n c : ℕ) → ((n < c) × (nat_lt n c ≡ true)) ⊎ ((c ≤ n) × (nat_lt n c ≡ false))
@@ -60,10 +60,6 @@ type_at-here Nil bs a = refl
 type_at-here (ty_cons b es) bs a = type_at-here es bs a
 
 -- the parts of a type of functions
-pub dom : Typ → Typ
-dom (Con c (ty_cons a rest)) = a
-dom a = a
-
 pub fun-parts : (a b c d : Typ) → fun a b ≡ fun c d → (a ≡ c) × (b ≡ d)
 unfolding dom cod
 fun-parts a b c d e = (ap dom e, ap cod e)
