@@ -5,3 +5,5 @@ pub mod Put
 pub mod Past
 pub mod Types
 pub mod Tests
+pub mod Made
+pub mod Closed

@@ -7,6 +7,7 @@
 pub mod contraction;
 pub mod looseness;
 pub mod raising;
+pub mod substitution;
 pub mod typing;
 
 pub use contraction::{contracts, eta};

@@ -17,3 +17,8 @@ past-right (n ∷ ns) ms h = inr (past-right ns ms h)
 pub exit : {T : Type 0} (r : Result T Want) (w : Want) (P : Type 0) → IsErrAnd r (λ y. y ≡ w) → (w ≡ Number → P) → IfErr r (λ z. z ≡ Number → P)
 exit (Ok x) w P h f = tt
 exit (Err e) w P h f = λ q. f (sym h ∙ q)
+
+-- what a later call may answer
+pub weaker : {T : Type 0} (r : Result T Want) (P Q : Type 0) → (P → Q) → IfErr r (λ z. z ≡ Number → P) → IfErr r (λ z. z ≡ Number → Q)
+weaker (Ok x) P Q f h = tt
+weaker (Err e) P Q f h = λ q. f (h q)
