@@ -7,3 +7,6 @@ pub mod Types
 pub mod Tests
 pub mod Made
 pub mod Closed
+pub mod Cancel
+pub mod Abstract
+pub mod Hhf

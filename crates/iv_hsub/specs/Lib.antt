@@ -3,3 +3,5 @@ pub mod Index
 pub mod Hsub
 pub mod Made
 pub mod Bounds
+pub mod Abstract
+pub mod Hhf

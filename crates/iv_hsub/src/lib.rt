@@ -4,12 +4,14 @@
 //! `==>`. Each call is an equation with a definition of `specs/`; what holds of the definitions is in [`laws`].
 #![tactic(auto)]
 
+pub mod abstraction;
 pub mod contraction;
 pub mod looseness;
 pub mod raising;
 pub mod substitution;
 pub mod typing;
 
+pub use abstraction::abstract_over;
 pub use contraction::{contracts, eta};
 pub use looseness::loose;
 pub use raising::raise;

@@ -30,7 +30,7 @@ pub(crate) fn abs(alloc: Global, a: &Typ, body: Term) -> Mem<Term>
 }
 
 /// A head under more binders.
-fn raise_head(h: &Head, by: u32, depth: u32) -> Mem<Head>
+pub(crate) fn raise_head(h: &Head, by: u32, depth: u32) -> Mem<Head>
     ensures ok { IfOk result (λ r. r ≡ raise_head by depth h.now) }
     ensures number { IfErr result (λ w. w ≡ Number → IsPast (made_raise_head by depth h.now)) }
 {

@@ -14,6 +14,7 @@ use Rattle.iv_term.specs.Term.{lam, tm_cons, is_nil}
 use Rattle.iv_hsub.specs.Typing.{cod, types_len, type_at, head_type, result_type, type_of, IsHead, IsTerm, AreArgs}
 use Rattle.iv_hsub.specs.Index.{index, raise_head, raise, raise_all, is_bound, occurs, occurs_in, lower_head, lower, lower_all, is_index_0, ends_in_0, front, contracts, contracted, eta}
 use Rattle.iv_hsub.specs.Hsub.{append}
+use Rattle.iv_hsub.specs.Hhf.{expand}
 use Rattle.iv_hsub.proofs.Laws.Base.{lt_cases, lt_true, lt_false, eq_true, eq_false, join, types_len-join, type_at-low, type_at-high}
 use Rattle.iv_hsub.proofs.Laws.Raise.{raise-low, raise-high, is_nil-raise, front-raise, IsTerm-raised, AreArgs-raised, head_type-raise, result-raise}
 
@@ -154,10 +155,7 @@ mutual
   occurs_in-fresh c Nil = refl
   occurs_in-fresh c (tm_cons t ts) = or-none _ _ (occurs-fresh c t) (occurs_in-fresh c ts)
 
--- the body of an abstraction that can be contracted to h ts
-pub expand : Head → Terms → Term
-expand h ts = Spine (raise_head 1 0 h) (last (raise_all 1 0 ts) (index 0))
-
+-- a body that can be contracted
 pub record Expands (b : Term) : Type 0 where
   pub head : Head
   pub args : Terms

@@ -84,12 +84,12 @@ result-put f v k a Nil = refl
 result-put f v k a (tm_cons t ts) = result-put f v k (cod a) ts
 
 -- a function that says what values of type a are at arguments keeps types
-pub Good : Typ → (Term → Terms → Term) → Type 0
+unfoldable pub Good : Typ → (Term → Terms → Term) → Type 0
 Good a f = (bs : Types) (v : Term) (us : Terms) → IsTerm bs v → type_of bs v ≡ a → AreArgs bs a us
     → IsTerm bs (f v us) × (type_of bs (f v us) ≡ result_type a us)
 
 -- a term of some type
-pub Has : Types → Typ → Term → Type 0
+unfoldable pub Has : Types → Typ → Term → Type 0
 Has bs a t = IsTerm bs t × (type_of bs t ≡ a)
 
 module _ (a : Typ) (f : Term → Terms → Term) (good : Good a f) (bs : Types) (v : Term) (v_term : IsTerm bs v) (v_type : type_of bs v ≡ a) where

@@ -39,7 +39,7 @@ front-raise d c (tm_cons t Nil) = refl
 front-raise d c (tm_cons t (tm_cons u us)) = ap (λ w. tm_cons (raise d c t) w) (front-raise d c (tm_cons u us))
 
 -- an index inside is where it was
-is_bound-raise : (d c k : ℕ) (h : Head) → k < c → is_bound k (raise_head d c h) ≡ is_bound k h
+pub is_bound-raise : (d c k : ℕ) (h : Head) → k < c → is_bound k (raise_head d c h) ≡ is_bound k h
 is_bound-raise d c k (Bound n) q = go (lt_cases n c)
   where
     go : ((n < c) × (nat_lt n c ≡ true)) ⊎ ((c ≤ n) × (nat_lt n c ≡ false)) → is_bound k (raise_head d c (Bound n)) ≡ is_bound k (Bound n)
@@ -94,7 +94,7 @@ unfolding raise type_of join types_len
 type_of-raise es ms bs (lam a b) = ap (fun a) (type_of-raise (ty_cons a es) ms bs b)
 type_of-raise es ms bs (Spine h ts) = result-raise (types_len ms) (types_len es) _ ts ∙ ap (λ c. result_type c ts) (head_type-raise es ms bs h)
 
-IsHead-raise : (es ms bs : Types) (h : Head) → IsHead (join es bs) h → IsHead (join es (join ms bs)) (raise_head (types_len ms) (types_len es) h)
+pub IsHead-raise : (es ms bs : Types) (h : Head) → IsHead (join es bs) h → IsHead (join es (join ms bs)) (raise_head (types_len ms) (types_len es) h)
 IsHead-raise es ms bs (Bound n) q = go (lt_cases n (types_len es))
   where
     go : ((n < types_len es) × (nat_lt n (types_len es) ≡ true)) ⊎ ((types_len es ≤ n) × (nat_lt n (types_len es) ≡ false))
