@@ -10,3 +10,4 @@ pub mod Closed
 pub mod Cancel
 pub mod Abstract
 pub mod Hhf
+pub mod Moves

@@ -1,6 +1,6 @@
 -- The indices and depths that the definitions make on the way, each step in order (of this project); they could be too great
 -- for the program. A step that makes none counts as 0, so that the list also says how many steps there are.
-use Rattle.std.specs.Prelude.{ℕ, zero, suc, ◌+◌, ◌≤◌, List, [], ◌∷◌, ◌++◌, nat_eq, nat_lt, ◌⊎◌, if◌then◌else◌}
+use Rattle.std.specs.Prelude.{ℕ, zero, suc, ◌+◌, ◌≤◌, List, [], ◌∷◌, ◌++◌, ◌&&◌, nat_eq, nat_lt, ◌⊎◌, if◌then◌else◌}
 use Rattle.iv_term.specs.declared.typ.Typ.{Typ}
 use Rattle.iv_term.specs.declared.term.Head.{Head}
 use Rattle.iv_term.specs.declared.term.Head.TheVariants.{Bound}
@@ -9,9 +9,10 @@ use Rattle.iv_term.specs.declared.term.Terms.{Terms}
 use Rattle.iv_term.specs.declared.term.Term.TheBlock.{Spine, Nil}
 use Rattle.iv_term.specs.declared.typ.Typ.TheBlock.{Con, Nil as no_types}
 use Rattle.iv_term.specs.Typ.{fun, ty_cons, same_typ}
-use Rattle.iv_term.specs.Term.{lam, tm_cons}
+use Rattle.iv_term.specs.Term.{lam, tm_cons, is_nil, are_two, antecedent, consequent}
 use Rattle.iv_hsub.specs.Index.{raise}
 use Rattle.iv_hsub.specs.Hsub.{put, put_all, happ}
+use Rattle.iv_hsub.specs.Hhf.{is_imp, is_all, hhf_all}
 
 -- one of some numbers is 4,294,967,295 or more
 abbrev pub IsPast : List ℕ → Type 0
@@ -59,3 +60,32 @@ made_happ a v ts = []
 
 unfoldable pub made_hsub : Typ → Term → Term → List ℕ
 made_hsub a v b = made_put (made_happ a) (happ a) v 0 b
+
+-- the numbers that pushing a premise under quantifiers makes
+abbrev pub made_push_expanded : Term → Head → Terms → List ℕ
+made_push_expanded a h ts = if is_all h && is_nil ts then made_raise 1 0 a else made_raise_head 1 0 h ++ made_raise_all 1 0 ts
+
+unfoldable mutual
+  pub made_push : Term → Term → List ℕ
+  made_push a (lam c t) = []
+  made_push a (Spine h ts) = made_push_args a h ts
+
+  pub made_push_args : Term → Head → Terms → List ℕ
+  made_push_args a h Nil = []
+  made_push_args a h (tm_cons t ts) = if is_all h && is_nil ts then made_raise 1 0 a ++ made_push_under (raise 1 0 a) t else []
+
+  pub made_push_under : Term → Term → List ℕ
+  made_push_under a (lam c t) = made_push a t
+  made_push_under a (Spine h ts) = made_push_expanded a h ts
+
+abbrev pub made_hhf_spine : Head → Terms → List ℕ
+made_hhf_spine h ts = if is_imp h && are_two ts then made_push (antecedent (Spine h ts)) (consequent (Spine h ts)) else []
+
+unfoldable mutual
+  pub made_hhf : Term → List ℕ
+  made_hhf (lam c t) = made_hhf t
+  made_hhf (Spine h ts) = made_hhf_all ts ++ made_hhf_spine h (hhf_all ts)
+
+  pub made_hhf_all : Terms → List ℕ
+  made_hhf_all Nil = []
+  made_hhf_all (tm_cons t ts) = made_hhf t ++ made_hhf_all ts

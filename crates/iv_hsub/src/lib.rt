@@ -6,6 +6,7 @@
 
 pub mod abstraction;
 pub mod contraction;
+pub mod harrop;
 pub mod looseness;
 pub mod raising;
 pub mod substitution;
@@ -13,5 +14,6 @@ pub mod typing;
 
 pub use abstraction::abstract_over;
 pub use contraction::{contracts, eta};
+pub use harrop::hhf;
 pub use looseness::loose;
 pub use raising::raise;

@@ -178,7 +178,7 @@ arity a = 0
 -- the type of propositions is no type of functions
 no-fun : (a b : Typ) → prop ≡ fun a b → ⊥
 unfolding arity types_len
-no-fun a b e = let bad : 0 ≡ 2 = ap arity e in cc
+no-fun a b e = let bad : ◌≡◌ {A = ℕ} 0 2 = ap arity e in cc
 
 and-false : (a : Bool) → (a && false) ≡ false
 and-false true = refl
@@ -377,7 +377,11 @@ push-plain a (lam c t) e = refl
 push-plain a (Spine h Nil) e = refl
 push-plain a (Spine h (tm_cons t ts)) e = chosen (λ z. z ≡ imp a (Spine h (tm_cons t ts))) (is_all h && is_nil ts) _ _ (λ f. absurd (let bad : false ≡ true = sym e ∙ f in cc)) (λ f. refl)
 
-hhf_spine-same : (h : Head) (ts : Terms) → (is_imp h ≡ true → IsSecondPlain ts) → hhf_spine h ts ≡ Spine h ts
+pub hhf_spine-other_head : (h : Head) (ts : Terms) → are_two ts ≡ false → hhf_spine h ts ≡ Spine h ts
+hhf_spine-other_head h ts e =
+    chosen (λ z. z ≡ Spine h ts) (is_imp h && are_two ts) _ _ (λ f. absurd (let bad : false ≡ true = sym e ∙ (and_parts (is_imp h) (are_two ts) f).1 in cc)) (λ f. refl)
+
+pub hhf_spine-same : (h : Head) (ts : Terms) → (is_imp h ≡ true → IsSecondPlain ts) → hhf_spine h ts ≡ Spine h ts
 hhf_spine-same h Nil q = chosen (λ z. z ≡ Spine h Nil) (is_imp h && false) _ _ (λ e. absurd (let bad : false ≡ true = sym (and-false (is_imp h)) ∙ e in cc)) (λ e. refl)
 hhf_spine-same h (tm_cons t Nil) q = chosen (λ z. z ≡ Spine h (tm_cons t Nil)) (is_imp h && false) _ _ (λ e. absurd (let bad : false ≡ true = sym (and-false (is_imp h)) ∙ e in cc)) (λ e. refl)
 hhf_spine-same h (tm_cons t (tm_cons u Nil)) q =
