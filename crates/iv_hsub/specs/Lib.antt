@@ -5,3 +5,4 @@ pub mod Made
 pub mod Bounds
 pub mod Abstract
 pub mod Hhf
+pub mod Laws

@@ -73,3 +73,7 @@ abbrev mutual
   pub AreArgs : Types → Typ → Terms → Type 0
   AreArgs bounds a no_terms = Unit {0}
   AreArgs bounds a (tm_cons t ts) = (a ≡ fun (type_of bounds t) (cod a)) × (IsTerm bounds t × AreArgs bounds (cod a) ts)
+
+-- a tree is a term of type a
+abbrev pub HasType : Types → Typ → Term → Type 0
+HasType bounds a t = IsTerm bounds t × (type_of bounds t ≡ a)

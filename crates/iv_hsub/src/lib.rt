@@ -7,6 +7,7 @@
 pub mod abstraction;
 pub mod contraction;
 pub mod harrop;
+pub mod laws;
 pub mod looseness;
 pub mod raising;
 pub mod substitution;

@@ -2,7 +2,7 @@ use Rattle.std.proofs.Common.{refl}
 use Rattle.iv_term.specs.Term.{abs_is, cons_is}
 use Rattle.iv_hsub.specs.Hhf.{hhf, hhf_all}
 use Rattle.iv_hsub.specs.Made.{made_hhf, made_hhf_all}
-use Rattle.iv_hsub.proofs.Laws.Past.{exit, past-left, past-right, weaker}
+use Rattle.iv_hsub.proofs.Terms.Past.{exit, past-left, past-right, weaker}
 use Rattle.iv_hsub.proofs.harrop.+hhf.Goals as goal
 
 pub moved-returns-in_err-body-in-Abs-clause-number : goal.moved-returns-in_err-body-in-Abs-clause-number

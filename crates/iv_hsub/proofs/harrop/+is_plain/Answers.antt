@@ -1,7 +1,7 @@
 use Rattle.std.proofs.Common.{refl, sym, ◌∙◌}
 use Rattle.iv_term.specs.Term.{abs_is, cons_is}
 use Rattle.iv_hsub.specs.Hhf.{hhf_all}
-use Rattle.iv_hsub.proofs.Laws.Moves.{plain-lam, plain-spine, plain-cons}
+use Rattle.iv_hsub.proofs.Terms.Moves.{plain-lam, plain-spine, plain-cons}
 use Rattle.iv_hsub.proofs.harrop.+is_plain.Goals as goal
 
 pub is_plain-returns-else-contracts : goal.is_plain-returns-else-contracts

@@ -1,7 +1,7 @@
 use Rattle.iv_term.specs.Term.{abs_is, cons_is}
 use Rattle.iv_hsub.specs.Hhf.{push, push_args, push_under}
 use Rattle.iv_hsub.specs.Made.{made_push, made_push_args, made_push_under}
-use Rattle.iv_hsub.proofs.Laws.Past.{exit, past-left, past-right}
+use Rattle.iv_hsub.proofs.Terms.Past.{exit, past-left, past-right}
 use Rattle.iv_hsub.proofs.harrop.+push.Goals as goal
 
 pub push-returns-in-Abs-clause-ok : goal.push-returns-in-Abs-clause-ok

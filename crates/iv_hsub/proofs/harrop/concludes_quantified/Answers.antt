@@ -1,6 +1,6 @@
 use Rattle.std.proofs.Common.{sym, ◌∙◌, ap}
 use Rattle.iv_hsub.specs.Hhf.{is_quantified}
-use Rattle.iv_hsub.proofs.Laws.Moves.{stays-other, stays-plain}
+use Rattle.iv_hsub.proofs.Terms.Moves.{stays-other, stays-plain}
 use Rattle.iv_hsub.proofs.harrop.concludes_quantified.Goals as goal
 
 pub returns-then-not-is_implication : goal.returns-then-not-is_implication

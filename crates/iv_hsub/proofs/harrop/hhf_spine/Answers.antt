@@ -1,5 +1,5 @@
 use Rattle.std.proofs.Common.{refl}
-use Rattle.iv_hsub.proofs.Laws.Moves.{spine_moves}
+use Rattle.iv_hsub.proofs.Terms.Moves.{spine_moves}
 use Rattle.iv_hsub.proofs.harrop.hhf_spine.Goals as goal
 
 pub returns-then-is_implication-clause-ok : goal.returns-then-is_implication-clause-ok

@@ -1,4 +1,4 @@
-use Rattle.iv_hsub.proofs.Laws.Moves.{all_test}
+use Rattle.iv_hsub.proofs.Terms.Moves.{all_test}
 use Rattle.iv_hsub.proofs.harrop.is_all.Goals as goal
 
 pub returns-then-is_chars : goal.returns-then-is_chars

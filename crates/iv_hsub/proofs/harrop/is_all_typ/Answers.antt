@@ -1,4 +1,4 @@
-use Rattle.iv_hsub.proofs.Laws.Moves.{all_typ_when, all_typ_not}
+use Rattle.iv_hsub.proofs.Terms.Moves.{all_typ_when, all_typ_not}
 use Rattle.iv_hsub.proofs.harrop.is_all_typ.Goals as goal
 
 pub returns-then-is_predicate : goal.returns-then-is_predicate

@@ -1,4 +1,4 @@
-use Rattle.iv_hsub.proofs.Laws.Moves.{predicate_when, predicate_not}
+use Rattle.iv_hsub.proofs.Terms.Moves.{predicate_when, predicate_not}
 use Rattle.iv_hsub.proofs.harrop.is_predicate.Goals as goal
 
 pub returns-then-is_fun : goal.returns-then-is_fun

@@ -2,7 +2,7 @@ use Rattle.std.proofs.Common.{refl, inl, inr, add-one}
 use Rattle.iv_term.specs.Term.{abs_is, cons_is}
 use Rattle.iv_hsub.specs.Index.{raise, raise_all}
 use Rattle.iv_hsub.specs.Made.{made_raise, made_raise_all}
-use Rattle.iv_hsub.proofs.Laws.Past.{exit, past-left, past-right}
+use Rattle.iv_hsub.proofs.Terms.Past.{exit, past-left, past-right}
 use Rattle.iv_hsub.proofs.raising.+raise.Goals as goal
 
 pub raise-returns-in_err-inner-in-Abs-clause-number : goal.raise-returns-in_err-inner-in-Abs-clause-number

@@ -1,6 +1,6 @@
 use Rattle.std.proofs.Common.{inl}
-use Rattle.iv_hsub.proofs.Laws.Base.{lt_false}
-use Rattle.iv_hsub.proofs.Laws.Past.{exit}
+use Rattle.iv_hsub.proofs.Terms.Base.{lt_false}
+use Rattle.iv_hsub.proofs.Terms.Past.{exit}
 use Rattle.iv_hsub.proofs.raising.raise_head.Goals as goal
 
 pub returns-in_err-sum-in-Bound-clause-number : goal.returns-in_err-sum-in-Bound-clause-number

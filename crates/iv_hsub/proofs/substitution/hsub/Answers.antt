@@ -3,7 +3,7 @@ use Rattle.std.proofs.lemmas.Result.{IfOk-weaker}
 use Rattle.iv_hsub.specs.Typing.{type_of, IsTerm}
 use Rattle.iv_hsub.specs.Hsub.{hsub}
 use Rattle.iv_hsub.specs.Made.{made_hsub}
-use Rattle.iv_hsub.proofs.Laws.Put.{hsub-term}
+use Rattle.iv_hsub.proofs.Terms.Put.{hsub-term}
 use Rattle.iv_hsub.proofs.substitution.hsub.Goals as goal
 
 pub returns-clause-ok : goal.returns-clause-ok

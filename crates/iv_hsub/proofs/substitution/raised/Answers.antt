@@ -1,5 +1,5 @@
 use Rattle.std.proofs.Common.{sym, ◌∙◌, le_of_eq}
-use Rattle.iv_hsub.proofs.Laws.Closed.{raise-closed}
+use Rattle.iv_hsub.proofs.Terms.Closed.{raise-closed}
 use Rattle.iv_hsub.proofs.substitution.raised.Goals as goal
 
 pub returns-then-loose-eq0-clause-ok : goal.returns-then-loose-eq0-clause-ok

@@ -1,5 +1,5 @@
 use Rattle.iv_term.specs.Term.{cons_is}
-use Rattle.iv_hsub.proofs.Laws.Tests.{arg-not_fun, arg-other, arg-fits, drop_unit, add_unit}
+use Rattle.iv_hsub.proofs.Terms.Tests.{arg-not_fun, arg-other, arg-fits, drop_unit, add_unit}
 use Rattle.iv_hsub.proofs.typing.+are_args.Goals as goal
 
 pub returns-then-not-is_fun : goal.returns-then-not-is_fun

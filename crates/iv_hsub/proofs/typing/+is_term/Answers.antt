@@ -2,7 +2,7 @@ use Rattle.std.proofs.Common.{sym, ◌∙◌}
 use Rattle.iv_term.specs.Term.{abs_is, cons_is}
 use Rattle.iv_hsub.specs.Typing.{result_type}
 use Rattle.iv_hsub.specs.Bounds.{types_in}
-use Rattle.iv_hsub.proofs.Laws.Tests.{lam-not_fun, lam-other, lam-contracts, lam-fits, spine-fits, arg-not_fun, arg-other, arg-fits}
+use Rattle.iv_hsub.proofs.Terms.Tests.{lam-not_fun, lam-other, lam-contracts, lam-fits, spine-fits, arg-not_fun, arg-other, arg-fits}
 use Rattle.iv_hsub.proofs.typing.+is_term.Goals as goal
 
 pub fits-returns-then-not-is_fun : goal.fits-returns-then-not-is_fun

@@ -1,7 +1,7 @@
 use Rattle.std.proofs.Common.{sym, ◌∙◌}
 use Rattle.iv_term.specs.Term.{abs_is}
 use Rattle.iv_hsub.specs.Bounds.{types_in}
-use Rattle.iv_hsub.proofs.Laws.Tests.{lam-no_term, lam-term, spine-term}
+use Rattle.iv_hsub.proofs.Terms.Tests.{lam-no_term, lam-term, spine-term}
 use Rattle.iv_hsub.proofs.typing.+is_term_under.Goals as goal
 
 pub returns-then-contracts : goal.returns-then-contracts

@@ -1,7 +1,7 @@
 use Rattle.std.proofs.Common.{arith}
 use Rattle.iv_term.specs.Typ.{cons_is}
 use Rattle.iv_hsub.specs.Typing.{types_len}
-use Rattle.iv_hsub.proofs.Laws.Types.{at_first, at_next}
+use Rattle.iv_hsub.proofs.Terms.Types.{at_first, at_next}
 use Rattle.iv_hsub.proofs.typing.+type_at.Goals as goal
 
 pub returns-in-Nil : goal.returns-in-Nil

@@ -1,6 +1,6 @@
 use Rattle.iv_term.specs.Typ.{cons_is}
 use Rattle.iv_hsub.specs.Typing.{types_len}
-use Rattle.iv_hsub.proofs.Laws.Types.{two_when}
+use Rattle.iv_hsub.proofs.Terms.Types.{two_when}
 use Rattle.iv_hsub.proofs.typing.are_two.Goals as goal
 
 pub returns-in-Nil : goal.returns-in-Nil

@@ -1,4 +1,4 @@
-use Rattle.iv_hsub.proofs.Laws.Types.{fun_when}
+use Rattle.iv_hsub.proofs.Terms.Types.{fun_when}
 use Rattle.iv_hsub.proofs.typing.is_fun.Goals as goal
 
 pub returns-then-is_chars : goal.returns-then-is_chars

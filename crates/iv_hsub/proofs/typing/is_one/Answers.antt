@@ -1,7 +1,7 @@
 use Rattle.std.proofs.Common.{refl}
 use Rattle.iv_term.specs.Typ.{cons_is}
 use Rattle.iv_hsub.specs.Typing.{types_len}
-use Rattle.iv_hsub.proofs.Laws.Types.{one_when}
+use Rattle.iv_hsub.proofs.Terms.Types.{one_when}
 use Rattle.iv_hsub.proofs.typing.is_one.Goals as goal
 
 pub returns-in-Nil : goal.returns-in-Nil

@@ -1,4 +1,4 @@
-use Rattle.iv_hsub.proofs.Laws.Types.{head_type-none}
+use Rattle.iv_hsub.proofs.Terms.Types.{head_type-none}
 use Rattle.iv_hsub.proofs.typing.spine_type.Goals as goal
 
 pub returns-in_ok-prop-in-None-clause-ok : goal.returns-in_ok-prop-in-None-clause-ok

@@ -1,5 +1,5 @@
 use Rattle.iv_hsub.specs.Bounds.{types_in}
-use Rattle.iv_hsub.proofs.Laws.Types.{at_first, at_next}
+use Rattle.iv_hsub.proofs.Terms.Types.{at_first, at_next}
 use Rattle.iv_hsub.proofs.typing.Bounds.+at.Goals as goal
 
 pub returns-in-Outer : goal.returns-in-Outer

@@ -13,7 +13,7 @@ use Rattle.iv_hsub.specs.Typing.{dom, cod}
 use Rattle.iv_hsub.specs.Index.{raise}
 use Rattle.iv_hsub.specs.Hsub.{put, happ}
 use Rattle.iv_hsub.specs.Made.{made_raise, made_put_head, made_put, made_happ}
-use Rattle.iv_hsub.proofs.Laws.Base.{lt_false, eq_true}
+use Rattle.iv_hsub.proofs.Terms.Base.{lt_false, eq_true}
 
 made_happ-at_fun : (y d : Typ) (b u : Term) (us : Terms)
     → made_happ (fun d y) (lam d b) (tm_cons u us) ≡ 0 ∷ made_put (made_happ d) (happ d) u 0 b ++ made_happ y (put (happ d) u 0 b) us

@@ -13,7 +13,7 @@ use Rattle.iv_term.specs.Typ.{prop, fun, ty_cons}
 use Rattle.iv_term.specs.Term.{lam, tm_cons, is_nil}
 use Rattle.iv_hsub.specs.Typing.{cod, types_len, type_at, head_type, result_type, type_of, IsHead, IsTerm, AreArgs}
 use Rattle.iv_hsub.specs.Index.{index, raise_head, raise, raise_all, is_bound, occurs, occurs_in, is_index_0, ends_in_0, front, contracts}
-use Rattle.iv_hsub.proofs.Laws.Base.{lt_cases, lt_true, lt_false, eq_true, eq_false, join, types_len-join, type_at-low, type_at-high}
+use Rattle.iv_hsub.proofs.Terms.Base.{lt_cases, lt_true, lt_false, eq_true, eq_false, join, types_len-join, type_at-low, type_at-high}
 
 pub raise-low : (d c n : ℕ) → n < c → raise_head d c (Bound n) ≡ Bound n
 raise-low d c n h = rw (lt_true n c h)

@@ -18,11 +18,11 @@ use Rattle.iv_hsub.specs.Index.{index, raise_head, raise, is_bound, occurs, occu
 use Rattle.iv_hsub.specs.Hsub.{append, put_head, put, put_all, happ}
 use Rattle.iv_hsub.specs.Hhf.{expand}
 use Rattle.iv_hsub.specs.Abstract.{free, bind_head, bind, bind_all, abstract_over}
-use Rattle.iv_hsub.proofs.Laws.Base.{lt_cases, eq_false, join, types_len-join, type_at-low, type_at-high, type_at-here, cod-fun}
-use Rattle.iv_hsub.proofs.Laws.Raise.{raise-low, raise-high, is_bound-raise, head_type-raise, IsHead-raise}
-use Rattle.iv_hsub.proofs.Laws.Eta.{last, EtaCase, eta_cases, eta-short, IsTerm-eta}
-use Rattle.iv_hsub.proofs.Laws.Put.{happ-nil, happ-spine, happ-lam, put-low, put-here, put-high}
-use Rattle.iv_hsub.proofs.Laws.Cancel.{raise-zero, put_all-append, put_head-cancel, put_all-cancel}
+use Rattle.iv_hsub.proofs.Terms.Base.{lt_cases, eq_false, join, types_len-join, type_at-low, type_at-high, type_at-here, cod-fun}
+use Rattle.iv_hsub.proofs.Terms.Raise.{raise-low, raise-high, is_bound-raise, head_type-raise, IsHead-raise}
+use Rattle.iv_hsub.proofs.Terms.Eta.{last, EtaCase, eta_cases, eta-short, IsTerm-eta}
+use Rattle.iv_hsub.proofs.Terms.Put.{happ-nil, happ-spine, happ-lam, put-low, put-here, put-high}
+use Rattle.iv_hsub.proofs.Terms.Cancel.{raise-zero, put_all-append, put_head-cancel, put_all-cancel}
 
 is_free-true : (x y : Name) (a b : Typ) → is_free x a (Free y b) ≡ true → Free x a ≡ Free y b
 is_free-true x y a b q =

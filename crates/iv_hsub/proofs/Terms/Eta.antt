@@ -15,8 +15,8 @@ use Rattle.iv_hsub.specs.Typing.{cod, types_len, type_at, head_type, result_type
 use Rattle.iv_hsub.specs.Index.{index, raise_head, raise, raise_all, is_bound, occurs, occurs_in, lower_head, lower, lower_all, is_index_0, ends_in_0, front, contracts, contracted, eta}
 use Rattle.iv_hsub.specs.Hsub.{append}
 use Rattle.iv_hsub.specs.Hhf.{expand}
-use Rattle.iv_hsub.proofs.Laws.Base.{lt_cases, lt_true, lt_false, eq_true, eq_false, join, types_len-join, type_at-low, type_at-high}
-use Rattle.iv_hsub.proofs.Laws.Raise.{raise-low, raise-high, is_nil-raise, front-raise, IsTerm-raised, AreArgs-raised, head_type-raise, result-raise}
+use Rattle.iv_hsub.proofs.Terms.Base.{lt_cases, lt_true, lt_false, eq_true, eq_false, join, types_len-join, type_at-low, type_at-high}
+use Rattle.iv_hsub.proofs.Terms.Raise.{raise-low, raise-high, is_nil-raise, front-raise, IsTerm-raised, AreArgs-raised, head_type-raise, result-raise}
 
 pub lower-low : (c n : ℕ) → n < c → lower_head c (Bound n) ≡ Bound n
 lower-low c n h = rw (lt_true n c h)

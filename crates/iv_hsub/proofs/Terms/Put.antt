@@ -14,9 +14,9 @@ use Rattle.iv_term.proofs.Laws.Same.{same_typ-true, same_typ-same}
 use Rattle.iv_hsub.specs.Typing.{cod, types_len, type_at, head_type, result_type, type_of, IsHead, IsTerm, AreArgs}
 use Rattle.iv_hsub.specs.Index.{raise, contracts, eta}
 use Rattle.iv_hsub.specs.Hsub.{append, put_head, put, put_all, happ, hsub}
-use Rattle.iv_hsub.proofs.Laws.Base.{lt_cases, lt_true, lt_false, eq_true, eq_false, join, types_len-join, type_at-low, type_at-high, type_at-here, fun_induction, fun-parts}
-use Rattle.iv_hsub.proofs.Laws.Raise.{IsTerm-raise, type_of-raise}
-use Rattle.iv_hsub.proofs.Laws.Eta.{append-nil, result-append, AreArgs-append, IsTerm-eta}
+use Rattle.iv_hsub.proofs.Terms.Base.{lt_cases, lt_true, lt_false, eq_true, eq_false, join, types_len-join, type_at-low, type_at-high, type_at-here, fun_induction, fun-parts}
+use Rattle.iv_hsub.proofs.Terms.Raise.{IsTerm-raise, type_of-raise}
+use Rattle.iv_hsub.proofs.Terms.Eta.{append-nil, result-append, AreArgs-append, IsTerm-eta}
 
 -- what a value is at arguments, by its form
 pub happ-nil : (a : Typ) (v : Term) → happ a v Nil ≡ v

@@ -12,10 +12,10 @@ use Rattle.iv_term.specs.Term.{lam, tm_cons}
 use Rattle.iv_hsub.specs.Typing.{cod, head_type, IsTerm, AreArgs}
 use Rattle.iv_hsub.specs.Index.{raise_head, raise, raise_all, eta}
 use Rattle.iv_hsub.specs.Hsub.{append, put_head, put, put_all}
-use Rattle.iv_hsub.proofs.Laws.Base.{lt_cases}
-use Rattle.iv_hsub.proofs.Laws.Raise.{raise-low, raise-high}
-use Rattle.iv_hsub.proofs.Laws.Eta.{eta-short}
-use Rattle.iv_hsub.proofs.Laws.Put.{put-low, put-high}
+use Rattle.iv_hsub.proofs.Terms.Base.{lt_cases}
+use Rattle.iv_hsub.proofs.Terms.Raise.{raise-low, raise-high}
+use Rattle.iv_hsub.proofs.Terms.Eta.{eta-short}
+use Rattle.iv_hsub.proofs.Terms.Put.{put-low, put-high}
 
 -- by nothing
 raise_head-zero : (c : ℕ) (h : Head) → raise_head 0 c h ≡ h

@@ -8,7 +8,7 @@ use Rattle.iv_term.specs.declared.term.Terms.{Terms}
 use Rattle.iv_term.specs.declared.term.Term.TheBlock.{Spine, Nil}
 use Rattle.iv_term.specs.Term.{lam, tm_cons}
 use Rattle.iv_hsub.specs.Index.{loose_head, loose, loose_all, raise_head, raise, raise_all}
-use Rattle.iv_hsub.proofs.Laws.Raise.{raise-low}
+use Rattle.iv_hsub.proofs.Terms.Raise.{raise-low}
 
 raise_head-closed : (d c : ℕ) (h : Head) → loose_head h ≤ c → raise_head d c h ≡ h
 raise_head-closed d c (Bound n) q = raise-low d c n q

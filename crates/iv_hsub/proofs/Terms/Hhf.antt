@@ -18,10 +18,10 @@ use Rattle.iv_hsub.specs.Typing.{dom, cod, types_len, type_at, head_type, result
 use Rattle.iv_hsub.specs.Index.{index, raise_head, raise, raise_all, contracts, eta}
 use Rattle.iv_hsub.specs.Hsub.{append}
 use Rattle.iv_hsub.specs.Hhf.{all_typ, all_head, is_imp, is_all, bound_type, one, expand, all_of, push_expanded, push, push_args, push_under, hhf_spine, hhf, hhf_all, is_quantified, IsFirstPlain, IsSecondPlain, IsHhf, AreHhf}
-use Rattle.iv_hsub.proofs.Laws.Base.{lt_cases, join, fun-parts, cod-fun}
-use Rattle.iv_hsub.proofs.Laws.Raise.{raise-low, raise-high, is_nil-raise, IsTerm-raise, AreArgs-raise, type_of-raise, head_type-raise, IsHead-raise, result-raise}
-use Rattle.iv_hsub.proofs.Laws.Eta.{last, eta_cases, EtaCase, eta-short, IsTerm-eta, result-append, AreArgs-append}
-use Rattle.iv_hsub.proofs.Laws.Put.{Has}
+use Rattle.iv_hsub.proofs.Terms.Base.{lt_cases, join, fun-parts, cod-fun}
+use Rattle.iv_hsub.proofs.Terms.Raise.{raise-low, raise-high, is_nil-raise, IsTerm-raise, AreArgs-raise, type_of-raise, head_type-raise, IsHead-raise, result-raise}
+use Rattle.iv_hsub.proofs.Terms.Eta.{last, eta_cases, EtaCase, eta-short, IsTerm-eta, result-append, AreArgs-append}
+use Rattle.iv_hsub.proofs.Terms.Put.{Has}
 
 -- what the tests of heads say
 pub imp-true : (h : Head) → is_imp h ≡ true → h ≡ imp_head

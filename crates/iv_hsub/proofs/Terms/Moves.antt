@@ -17,8 +17,8 @@ use Rattle.iv_term.proofs.Laws.Tests.{are_two-parts, spine-parts}
 use Rattle.iv_hsub.specs.Typing.{dom, cod}
 use Rattle.iv_hsub.specs.Index.{contracts, eta}
 use Rattle.iv_hsub.specs.Hhf.{all_typ, is_imp, is_all, hhf_spine, hhf, hhf_all, push, is_quantified}
-use Rattle.iv_hsub.proofs.Laws.Eta.{eta-short}
-use Rattle.iv_hsub.proofs.Laws.Hhf.{imp-true, hhf_spine-same, hhf_spine-other_head}
+use Rattle.iv_hsub.proofs.Terms.Eta.{eta-short}
+use Rattle.iv_hsub.proofs.Terms.Hhf.{imp-true, hhf_spine-same, hhf_spine-other_head}
 
 pub predicate_when : (a : Typ) (b : Bool) → a ≡ fun (dom a) (cod a) → (IsTrue b ↔ (cod a ≡ prop)) → (IsTrue b ↔ (a ≡ fun (dom a) prop))
 unfolding cod
