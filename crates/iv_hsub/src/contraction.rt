@@ -16,11 +16,7 @@ fn under(depth: u64) -> u64
     ensures below { result ≤ 2 ^ 32 }
     ensures next { (d : ℕ) → min d (2 ^ 32) ≡ depth → min (suc d) (2 ^ 32) ≡ result }
 {
-    if depth < TOP {
-        depth + 1
-    } else {
-        depth
-    }
+    if depth < TOP { depth + 1 } else { depth }
 }
 
 /// Whether a head is the index at a depth.
@@ -77,13 +73,7 @@ fn is_index_0(t: &Term) -> bool
 {
     match t {
         Term::Abs(_a, _b) => false,
-        Term::Spine(h, ts) => {
-            if is_bound(h, 0) {
-                ts.is_nil()
-            } else {
-                false
-            }
-        }
+        Term::Spine(h, ts) => { if is_bound(h, 0) { ts.is_nil() } else { false } }
     }
 }
 

@@ -18,3 +18,8 @@ pub use contraction::{contracts, eta};
 pub use harrop::hhf;
 pub use looseness::loose;
 pub use raising::raise;
+pub use substitution::{happ, hsub};
+pub use typing::{is_term, type_of};
+
+#[cfg(test)]
+mod tests;

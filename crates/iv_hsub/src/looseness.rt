@@ -8,11 +8,7 @@ use iv_term::{Head, Term, Terms};
 fn greater(a: u64, b: u64) -> u64
     ensures { result ≡ max a b }
 {
-    if a < b {
-        b
-    } else {
-        a
-    }
+    if a < b { b } else { a }
 }
 
 /// One more than the index of a head, or 0.

@@ -113,13 +113,7 @@ impl<'a> Bounds<'a> {
     {
         match self {
             Bounds::Outer(types) => type_at(types, n),
-            Bounds::Under(a, rest) => {
-                if n == 0 {
-                    Some(*a)
-                } else {
-                    rest.at(n - 1)
-                }
-            }
+            Bounds::Under(a, rest) => { if n == 0 { Some(*a) } else { rest.at(n - 1) } }
         }
     }
 }

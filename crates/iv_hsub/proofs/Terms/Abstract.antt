@@ -68,6 +68,7 @@ module _ (x : Name) (a : Typ) where
 
   mutual
     unfolding occurs bind
+
     occurs-bind : (k j : ℕ) (t : Term) → j < k → occurs j (bind x a k t) ≡ occurs j t
     occurs-bind k j (lam b t) q = occurs-bind (suc k) (suc j) t (omega (arith, q))
     occurs-bind k j (Spine h ts) q = λ i. is_bound-bind k j h q i || occurs_in-bind k j ts q i
@@ -123,6 +124,7 @@ module _ (x : Name) (a : Typ) where
 
   mutual
     unfolding bind type_of join types_len
+
     pub bind-term : (es bs : Types) (t : Term) → IsTerm (join es bs) t
         → IsTerm (join es (ty_cons a bs)) (bind x a (types_len es) t) × (type_of (join es (ty_cons a bs)) (bind x a (types_len es) t) ≡ type_of (join es bs) t)
     bind-term es bs (lam c b) p =
@@ -130,9 +132,10 @@ module _ (x : Name) (a : Typ) where
         ((r.0, contracts-bind (types_len es) b ∙ p.1), ap (fun c) r.1)
     bind-term es bs (Spine h ts) p =
         let w = head-bind es bs h p.0 in
-        let c = head_type (join es bs) h in
-        ((w.0, subst (λ z. AreArgs (join es (ty_cons a bs)) z (bind_all x a (types_len es) ts)) (sym w.1) (bind-args es bs c ts p.1)),
-            result-bind (types_len es) _ ts ∙ ap (λ z. result_type z ts) w.1)
+        let c = head_type (join es bs) h in (
+          (w.0, subst (λ z. AreArgs (join es (ty_cons a bs)) z (bind_all x a (types_len es) ts)) (sym w.1) (bind-args es bs c ts p.1)),
+          result-bind (types_len es) _ ts ∙ ap (λ z. result_type z ts) w.1,
+        )
 
     pub bind-args : (es bs : Types) (c : Typ) (ts : Terms) → AreArgs (join es bs) c ts → AreArgs (join es (ty_cons a bs)) c (bind_all x a (types_len es) ts)
     bind-args es bs c Nil p = tt
@@ -159,6 +162,7 @@ module _ (x : Name) (a : Typ) where
 
   mutual
     unfolding bind put
+
     pub back : (bs : Types) (k : ℕ) (t : Term) → IsTerm bs t → put (happ a) (free x a) k (bind x a k t) ≡ t
     back bs k (lam c b) p = ap (eta c) (back (ty_cons c bs) (suc k) b p.0) ∙ eta-short c b p.1
     back bs k (Spine h ts) p = ap (put_head (happ a) (free x a) k (bind_head x a k h)) (back_all bs (head_type bs h) k ts p.1) ∙ back_head k h ts

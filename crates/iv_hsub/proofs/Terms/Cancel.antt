@@ -30,6 +30,7 @@ raise_head-zero c (Schematic x a) = refl
 
 mutual
   unfolding raise
+
   pub raise-zero : (c : ℕ) (t : Term) → raise 0 c t ≡ t
   raise-zero c (lam a b) = ap (λ w. lam a w) (raise-zero (suc c) b)
   raise-zero c (Spine h ts) = let e = raise_head-zero c h in let f = raise_all-zero c ts in λ i. Spine (e i) (f i)
@@ -59,6 +60,7 @@ module _ (f : Term → Terms → Term) (v : Term) where
 
   mutual
     unfolding raise put
+
     pub put-cancel : (bs : Types) (k : ℕ) (t : Term) → IsTerm bs t → put f v k (raise 1 k t) ≡ t
     put-cancel bs k (lam a b) p = ap (eta a) (put-cancel (ty_cons a bs) (suc k) b p.0) ∙ eta-short a b p.1
     put-cancel bs k (Spine h ts) p = ap (λ us. put_head f v k (raise_head 1 k h) us) (put_all-cancel bs (head_type bs h) k ts p.1) ∙ put_head-cancel k h ts

@@ -27,6 +27,7 @@ max-right a b c q = omega (arith, q)
 
 mutual
   unfolding raise loose
+
   pub raise-closed : (d c : ℕ) (t : Term) → loose t ≤ c → raise d c t ≡ t
   raise-closed d c (lam a b) q = ap (λ w. lam a w) (raise-closed d (suc c) b (pred-le (loose b) c q))
   raise-closed d c (Spine h ts) q =

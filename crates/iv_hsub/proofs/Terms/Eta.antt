@@ -93,6 +93,7 @@ raise_head-lower c (Schematic x a) q = refl
 
 mutual
   unfolding raise lower occurs
+
   pub raise-lower : (c : ℕ) (t : Term) → occurs c t ≡ false → raise 1 c (lower c t) ≡ t
   raise-lower c (lam a b) q = ap (λ w. lam a w) (raise-lower (suc c) b q)
   raise-lower c (Spine h ts) q =
@@ -121,6 +122,7 @@ lower_head-raise c (Schematic x a) = refl
 
 mutual
   unfolding raise lower
+
   pub lower-raise : (c : ℕ) (t : Term) → lower c (raise 1 c t) ≡ t
   lower-raise c (lam a b) = ap (λ w. lam a w) (lower-raise (suc c) b)
   lower-raise c (Spine h ts) =
@@ -147,6 +149,7 @@ or-none a b p q = rw (p, q)
 
 mutual
   unfolding raise occurs
+
   pub occurs-fresh : (c : ℕ) (t : Term) → occurs c (raise 1 c t) ≡ false
   occurs-fresh c (lam a b) = occurs-fresh (suc c) b
   occurs-fresh c (Spine h ts) = or-none _ _ (is_bound-fresh c h) (occurs_in-fresh c ts)

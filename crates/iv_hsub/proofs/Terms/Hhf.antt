@@ -81,6 +81,7 @@ second-raised d c (tm_cons t (tm_cons u us)) p = sym (quantified-raise d c u) �
 
 mutual
   unfolding raise
+
   pub IsHhf-raise : (d c : ℕ) (t : Term) → IsHhf t → IsHhf (raise d c t)
   IsHhf-raise d c (lam a b) p = IsHhf-raise d (suc c) b p
   IsHhf-raise d c (Spine h ts) p = (AreHhf-raise d c ts p.0, λ q. second-raise d c ts (p.1 (sym (is_imp-raise d c h) ∙ q)))
@@ -91,6 +92,7 @@ mutual
 
 mutual
   unfolding raise
+
   IsHhf-raised : (d c : ℕ) (t : Term) → IsHhf (raise d c t) → IsHhf t
   IsHhf-raised d c (lam a b) p = IsHhf-raised d (suc c) b p
   IsHhf-raised d c (Spine h ts) p = (AreHhf-raised d c ts p.0, λ q. second-raised d c ts (p.1 (is_imp-raise d c h ∙ q)))
@@ -186,6 +188,7 @@ and-false false = refl
 
 mutual
   unfolding push
+
   pub IsHhf-push : (a b : Term) → IsHhf a → IsHhf b → IsHhf (push a b)
   IsHhf-push a (lam c t) p q = IsHhf-imp a (lam c t) p q refl
   IsHhf-push a (Spine h ts) p q = IsHhf-push_args a h ts p q
@@ -236,9 +239,10 @@ expand-has bs c d h ts p =
     let e : head_type bs' k ≡ head_type bs h = head_type-raise no_types (ty_cons c no_types) bs h in
     let r : result_type (head_type bs' k) us ≡ fun c d = result-raise 1 0 (head_type bs' k) ts ∙ ap (λ z. result_type z ts) e ∙ p.1 in
     let w : AreArgs bs' (head_type bs' k) us = subst (λ z. AreArgs bs' z us) (sym e) (AreArgs-raise no_types (ty_cons c no_types) bs (head_type bs h) ts p.0.1) in
-    let v : AreArgs bs' (result_type (head_type bs' k) us) (one (index 0)) = subst (λ z. AreArgs bs' z (one (index 0))) (sym r) (refl, ((omega arith, tt), tt)) in
-    ((IsHead-raise no_types (ty_cons c no_types) bs h p.0.0, AreArgs-append bs' (head_type bs' k) us (one (index 0)) w v),
-        result-append (head_type bs' k) us (one (index 0)) ∙ ap cod r)
+    let v : AreArgs bs' (result_type (head_type bs' k) us) (one (index 0)) = subst (λ z. AreArgs bs' z (one (index 0))) (sym r) (refl, ((omega arith, tt), tt)) in (
+      (IsHead-raise no_types (ty_cons c no_types) bs h p.0.0, AreArgs-append bs' (head_type bs' k) us (one (index 0)) w v),
+      result-append (head_type bs' k) us (one (index 0)) ∙ ap cod r,
+    )
 
 raise-has : (bs : Types) (c : Typ) (a : Term) → Has bs prop a → Has (ty_cons c bs) prop (raise 1 0 a)
 unfolding Has join types_len
@@ -279,6 +283,7 @@ all-argument bs h t q p =
 
 mutual
   unfolding push Has type_of
+
   pub push-term : (bs : Types) (a b : Term) → Has bs prop a → Has bs prop b → Has bs prop (push a b)
   push-term bs a (lam c t) p q = imp-term bs a (lam c t) p q
   push-term bs a (Spine h ts) p q = push_args-term bs a h ts p q
@@ -288,9 +293,9 @@ mutual
   push_args-term bs a h (tm_cons t ts) p q =
       chosen (Has bs prop) (is_all h && is_nil ts) _ _
       (λ e. let b = and_parts (is_all h) (is_nil ts) e in
-          let r = subst (λ us. IsTerm bs (Spine h (tm_cons t us))) (nil-true ts b.1) q.0 in
-          let s = all-argument bs h t b.0 r in
-          all_of-term bs h _ b.0 (push_under-term bs (bound_type h) (raise 1 0 a) t (raise-has bs (bound_type h) a p) s))
+      let r = subst (λ us. IsTerm bs (Spine h (tm_cons t us))) (nil-true ts b.1) q.0 in
+      let s = all-argument bs h t b.0 r in
+      all_of-term bs h _ b.0 (push_under-term bs (bound_type h) (raise 1 0 a) t (raise-has bs (bound_type h) a p) s))
       (λ e. imp-term bs a (Spine h (tm_cons t ts)) p q)
 
   push_under-term : (bs : Types) (c : Typ) (a t : Term) → Has (ty_cons c bs) prop a → Has bs (fun c prop) t → Has (ty_cons c bs) prop (push_under a t)
@@ -327,9 +332,9 @@ hhf_spine-term bs h (tm_cons t Nil) p = hhf_spine-other bs h (tm_cons t Nil) ref
 hhf_spine-term bs h (tm_cons t (tm_cons u Nil)) p =
     chosen (Has bs (type_of bs (Spine h (tm_cons t (tm_cons u Nil))))) (is_imp h && true) _ _
     (λ e. let f : head_type bs h ≡ implies = ap (head_type bs) (imp-true h (and_parts (is_imp h) true e).0) in
-        let g = imp-arguments bs t u (subst (λ z. AreArgs bs z (tm_cons t (tm_cons u Nil))) f p.1) in
-        let r = push-term bs t u g.0 g.1 in
-        (r.0, r.1 ∙ sym (ap (λ z. cod (cod z)) f)))
+    let g = imp-arguments bs t u (subst (λ z. AreArgs bs z (tm_cons t (tm_cons u Nil))) f p.1) in
+    let r = push-term bs t u g.0 g.1 in
+    (r.0, r.1 ∙ sym (ap (λ z. cod (cod z)) f)))
     (λ e. (p, refl))
 hhf_spine-term bs h (tm_cons t (tm_cons u (tm_cons w ws))) p = hhf_spine-other bs h (tm_cons t (tm_cons u (tm_cons w ws))) refl p
 
@@ -340,6 +345,7 @@ result-hhf a (tm_cons t ts) = result-hhf (cod a) ts
 
 mutual
   unfolding hhf Has type_of
+
   -- hhf of a term is a term of its type
   pub hhf-term : (bs : Types) (t : Term) → IsTerm bs t → Has bs (type_of bs t) (hhf t)
   hhf-term bs (lam c b) p =
@@ -359,6 +365,7 @@ mutual
 
 mutual
   unfolding hhf
+
   -- it has the form
   pub IsHhf-hhf : (bs : Types) (t : Term) → IsTerm bs t → IsHhf (hhf t)
   IsHhf-hhf bs (lam c b) p = IsHhf-eta c (hhf b) (IsHhf-hhf (ty_cons c bs) b p.0)
@@ -392,6 +399,7 @@ hhf_spine-same h (tm_cons t (tm_cons u (tm_cons w ws))) q =
 
 mutual
   unfolding hhf
+
   pub hhf-same : (bs : Types) (t : Term) → IsTerm bs t → IsHhf t → hhf t ≡ t
   hhf-same bs (lam c b) p q = ap (eta c) (hhf-same (ty_cons c bs) b p.0 q) ∙ eta-short c b p.1
   hhf-same bs (Spine h ts) p q = ap (hhf_spine h) (hhf_all-same bs (head_type bs h) ts p.1 q.0) ∙ hhf_spine-same h ts q.1

@@ -55,6 +55,7 @@ spine_moves h ts r d = same_from_decides r (is_imp h && are_two ts) d (there, ba
         let e = imp-true h p.0 in
         let f = are_two-parts (Spine h ts) (Spine h ts) ts p.1 in
         λ i. Spine (e i) (f i)
+
     back : IsImplication (Spine h ts) → (is_imp h && are_two ts) ≡ true
     back q =
         let p = spine-parts h imp_head ts (tm_cons (first_or (Spine h ts) ts) (tm_cons (first_or (Spine h ts) (rest_of ts)) Nil)) q in

@@ -129,6 +129,7 @@ module _ (a : Typ) (f : Term → Terms → Term) (good : Good a f) (bs : Types) 
 
   mutual
     unfolding put Has type_of join types_len
+
     pub put-term : (es : Types) (t : Term) → IsTerm (join es (ty_cons a bs)) t
         → Has (join es bs) (type_of (join es (ty_cons a bs)) t) (put f v (types_len es) t)
     put-term es (lam c b) p =
@@ -164,7 +165,7 @@ happ-step a parts bs (Spine h ts) (tm_cons u us) p e q =
     let r : result_type c ts ≡ a = e in
     let g = AreArgs-append bs c ts (tm_cons u us) p.1 (subst (λ z. AreArgs bs z (tm_cons u us)) (sym r) q) in
     let z : type_of bs (Spine h (append ts (tm_cons u us))) ≡ result_type a (tm_cons u us) =
-        result-append c ts (tm_cons u us) ∙ ap (λ y. result_type y (tm_cons u us)) r in
+    result-append c ts (tm_cons u us) ∙ ap (λ y. result_type y (tm_cons u us)) r in
     (subst (IsTerm bs) (sym s) (p.0, g), ap (type_of bs) s ∙ z)
 happ-step a parts bs (lam d b) (tm_cons u us) p e q =
     let k = lam-type bs a d b u e q.0 in

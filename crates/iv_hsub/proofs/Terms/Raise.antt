@@ -51,6 +51,7 @@ is_bound-raise d c k (Schematic x a) q = refl
 
 mutual
   unfolding occurs raise
+
   pub occurs-raise : (d c k : ℕ) (t : Term) → k < c → occurs k (raise d c t) ≡ occurs k t
   occurs-raise d c k (lam a b) q = occurs-raise d (suc c) (suc k) b (omega arith)
   occurs-raise d c k (Spine h ts) q = λ i. is_bound-raise d c k h q i || occurs_in-raise d c k ts q i
@@ -119,6 +120,7 @@ IsHead-raised es ms bs (Schematic x a) q = tt
 
 mutual
   unfolding raise type_of join types_len
+
   pub IsTerm-raise : (es ms bs : Types) (t : Term) → IsTerm (join es bs) t → IsTerm (join es (join ms bs)) (raise (types_len ms) (types_len es) t)
   IsTerm-raise es ms bs (lam a b) p = (IsTerm-raise (ty_cons a es) ms bs b p.0, contracts-raise (types_len ms) (types_len es) b ∙ p.1)
   IsTerm-raise es ms bs (Spine h ts) p =
@@ -131,6 +133,7 @@ mutual
 
 mutual
   unfolding raise type_of join types_len
+
   pub IsTerm-raised : (es ms bs : Types) (t : Term) → IsTerm (join es (join ms bs)) (raise (types_len ms) (types_len es) t) → IsTerm (join es bs) t
   IsTerm-raised es ms bs (lam a b) p = (IsTerm-raised (ty_cons a es) ms bs b p.0, sym (contracts-raise (types_len ms) (types_len es) b) ∙ p.1)
   IsTerm-raised es ms bs (Spine h ts) p =

@@ -15,7 +15,7 @@ unfolding made_raise
 bind-returns-in_err-body-in-Abs-clause-number t c =
     exit _ _ _ c.from_residual-in_err-body-in-Abs.ensures.1
     (λ q. let h = c.in_err-body-in-Abs.ensures.number q in
-        rw (c.in-Abs.is, abs_is) (inr (rw (c.in_ok-inner-in-Abs.ensures.ok, add-one, c.get.ensures) at h)))
+    rw (c.in-Abs.is, abs_is) (inr (rw (c.in_ok-inner-in-Abs.ensures.ok, add-one, c.get.ensures) at h)))
 
 pub bind-returns-in_err-args-in-Spine-clause-number : goal.bind-returns-in_err-args-in-Spine-clause-number
 unfolding made_raise

@@ -30,15 +30,15 @@ unfolding made_push_args
 push_args-returns-in_err-up-in-Cons-clause-number t c =
     exit _ _ _ c.from_residual.ensures.1
     (λ q. let h = c.in_err-up-in-Cons.ensures.number q in
-        rw (c.in-Cons.is, cons_is, ← c.get.ensures, ← c.is_all_alone.ensures, c.if-not-is_all_alone.false) (past-left _ _ h))
+    rw (c.in-Cons.is, cons_is, ← c.get.ensures, ← c.is_all_alone.ensures, c.if-not-is_all_alone.false) (past-left _ _ h))
 
 pub push_args-returns-in_err-body-in-Cons-clause-number : goal.push_args-returns-in_err-body-in-Cons-clause-number
 unfolding made_push_args
 push_args-returns-in_err-body-in-Cons-clause-number t c =
     exit _ _ _ c.from_residual-in_err-body-in-Cons.ensures.1
     (λ q. let h = c.in_err-body-in-Cons.ensures.number q in
-        rw (c.in-Cons.is, cons_is, ← c.get.ensures, ← c.is_all_alone.ensures, c.if-not-is_all_alone.false)
-        (past-right _ _ (rw (c.in_ok-up-in-Cons.ensures.ok, c.get-in-Cons.ensures) at h)))
+    rw (c.in-Cons.is, cons_is, ← c.get.ensures, ← c.is_all_alone.ensures, c.if-not-is_all_alone.false)
+    (past-right _ _ (rw (c.in_ok-up-in-Cons.ensures.ok, c.get-in-Cons.ensures) at h)))
 
 pub push_args-returns-in_ok-body-in-Cons-clause-ok : goal.push_args-returns-in_ok-body-in-Cons-clause-ok
 unfolding push_args

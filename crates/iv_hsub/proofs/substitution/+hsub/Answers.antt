@@ -82,7 +82,7 @@ unfolding made_put
 put-returns-in_err-body-in-Abs-clause-number t c =
     exit _ _ _ c.from_residual-in_err-body-in-Abs.ensures.1
     (λ q. let h = c.in_err-body-in-Abs.ensures.number q in
-        rw (c.in-Abs.is, abs_is) (inr (rw (c.in_ok-inner-in-Abs.ensures.ok, add-one, c.get.ensures) at h)))
+    rw (c.in-Abs.is, abs_is) (inr (rw (c.in_ok-inner-in-Abs.ensures.ok, add-one, c.get.ensures) at h)))
 
 pub put-returns-in_err-args-in-Spine-clause-number : goal.put-returns-in_err-args-in-Spine-clause-number
 unfolding made_put
@@ -111,7 +111,7 @@ pub put_head-returns-in_err-w-in-Bound-clause-number : goal.put_head-returns-in_
 put_head-returns-in_err-w-in-Bound-clause-number t c =
     exit _ _ _ c.from_residual.ensures.1
     (λ q. let h = c.in_err-w-in-Bound.ensures.number q in
-        rw (c.in-Bound.is, made-here _ _ _ _ _ c.if-n-k-2.true) (inr (past-left _ _ h)))
+    rw (c.in-Bound.is, made-here _ _ _ _ _ c.if-n-k-2.true) (inr (past-left _ _ h)))
 
 pub put_head-returns-then-n-k-2-clause-number : goal.put_head-returns-then-n-k-2-clause-number
 put_head-returns-then-n-k-2-clause-number t c =
@@ -121,12 +121,12 @@ pub happ-returns-in_err-body-in-Abs-clause-number : goal.happ-returns-in_err-bod
 happ-returns-in_err-body-in-Abs-clause-number t c =
     exit _ _ _ c.from_residual.ensures.1
     (λ q. let h = c.in_err-body-in-Abs.ensures.number q in
-        rw (c.in-Cons.is, cons_is, c.in-Abs.is, abs_is, made_happ-lam _ _ _ _ _ (c.takes.ensures.0 c.if-not-takes.false))
-        (inr (past-left _ _ (rw (c.get.ensures, c.get-in-Abs.ensures) at h))))
+    rw (c.in-Cons.is, cons_is, c.in-Abs.is, abs_is, made_happ-lam _ _ _ _ _ (c.takes.ensures.0 c.if-not-takes.false))
+    (inr (past-left _ _ (rw (c.get.ensures, c.get-in-Abs.ensures) at h))))
 
 pub happ-returns-in_ok-body-in-Abs-clause-number : goal.happ-returns-in_ok-body-in-Abs-clause-number
 happ-returns-in_ok-body-in-Abs-clause-number t c =
     weaker _ _ _
     (λ h. rw (c.in-Cons.is, cons_is, c.in-Abs.is, abs_is, made_happ-lam _ _ _ _ _ (c.takes.ensures.0 c.if-not-takes.false))
-        (inr (past-right _ _ h)))
+    (inr (past-right _ _ h)))
     (rw (c.cod.ensures, c.get-in-Abs-2.ensures, c.in_ok-body-in-Abs.ensures.ok, c.get.ensures, c.get-in-Abs.ensures) at c.happ.ensures.number)

@@ -13,4 +13,4 @@ pub returns-else-not-fits : goal.returns-else-not-fits
 returns-else-not-fits t c =
     rw (c.in-Cons.is, cons_is)
     (drop_unit _ _ (arg-fits _ _ c.in-Cons.t c.in-Cons.rest _ _ (c.is_fun.ensures.0 c.if-not-is_fun.false) ((rw (c.get.ensures, c.dom.ensures) at c.fits.ensures).0 c.if-not-fits.false)
-        (add_unit _ _ (rw (c.get-in-Cons.ensures, c.cod.ensures) at c.are_args.ensures))))
+    (add_unit _ _ (rw (c.get-in-Cons.ensures, c.cod.ensures) at c.are_args.ensures))))

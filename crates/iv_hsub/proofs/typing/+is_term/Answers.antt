@@ -19,7 +19,7 @@ unfolding types_in
 fits-returns-else-contracts t c =
     rw (c.in-Abs.is, abs_is)
     (lam-fits _ _ _ _ _ (c.is_fun.ensures.0 c.if-not-is_fun.false) ((rw c.dom.ensures at c.is.ensures.equal).0 c.if-not-is.false)
-        (rw c.get.ensures at (sym c.contracts.ensures ∙ c.if-contracts.false)) (rw (c.get-in-Abs.ensures, c.cod.ensures) at c.fits.ensures))
+    (rw c.get.ensures at (sym c.contracts.ensures ∙ c.if-contracts.false)) (rw (c.get-in-Abs.ensures, c.cod.ensures) at c.fits.ensures))
 
 pub fits-returns-in-Some : goal.fits-returns-in-Some
 fits-returns-in-Some t c = rw c.in-Spine.is (spine-fits _ _ _ _ _ _ c.in-Some.ensures c.lead_to.ensures)
@@ -40,4 +40,4 @@ unfolding result_type
 lead_to-returns-else-not-fits t c =
     rw (c.in-Cons.is, cons_is)
     (arg-fits _ _ c.in-Cons.t c.in-Cons.rest _ _ (c.is_fun.ensures.0 c.if-not-is_fun.false) ((rw (c.get.ensures, c.dom.ensures) at c.fits.ensures).0 c.if-not-fits.false)
-        (rw (c.get-in-Cons.ensures, c.cod.ensures) at c.lead_to.ensures))
+    (rw (c.get-in-Cons.ensures, c.cod.ensures) at c.lead_to.ensures))
