@@ -11,3 +11,5 @@ pub mod Cancel
 pub mod Abstract
 pub mod Hhf
 pub mod Moves
+pub mod Algebra
+pub mod Commute

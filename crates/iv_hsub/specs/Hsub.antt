@@ -1,6 +1,6 @@
 -- Hereditary substitution (of this project, after Watkins, Cervesato, Pfenning and Walker 2002): by recursion on the type
 -- of what is put, then on the term.
-use Rattle.std.specs.Prelude.{◌≡◌, ℕ, suc, pred, Bool, nat_eq, nat_lt, if◌then◌else◌}
+use Rattle.std.specs.Prelude.{ℕ, suc, pred, nat_eq, nat_lt, if◌then◌else◌}
 use Rattle.iv_term.specs.declared.typ.Typ.{Typ}
 use Rattle.iv_term.specs.declared.typ.Typ.TheBlock.{Con, Nil as no_types}
 use Rattle.iv_term.specs.declared.term.Head.{Head}

@@ -1,5 +1,5 @@
 -- What the laws say.
-use Rattle.std.specs.Prelude.{◌≡◌, ℕ, true}
+use Rattle.std.specs.Prelude.{◌≡◌, suc, true}
 use Rattle.iv_term.specs.declared.name.Name.{Name}
 use Rattle.iv_term.specs.declared.typ.Typ.{Typ}
 use Rattle.iv_term.specs.declared.typ.Types.{Types}
@@ -8,9 +8,9 @@ use Rattle.iv_term.specs.declared.term.Term.{Term}
 use Rattle.iv_term.specs.declared.term.Terms.{Terms}
 use Rattle.iv_term.specs.Typ.{fun, ty_cons}
 use Rattle.iv_term.specs.Term.{imp_head}
-use Rattle.iv_hsub.specs.Typing.{types_len, result_type, type_of, IsTerm, AreArgs, HasType}
+use Rattle.iv_hsub.specs.Typing.{types_len, join, result_type, IsTerm, AreArgs, HasType}
 use Rattle.iv_hsub.specs.Index.{raise, eta}
-use Rattle.iv_hsub.specs.Hsub.{happ, hsub}
+use Rattle.iv_hsub.specs.Hsub.{put, happ, hsub}
 use Rattle.iv_hsub.specs.Abstract.{free, abstract_over}
 use Rattle.iv_hsub.specs.Hhf.{all_head, is_imp, is_all, bound_type, one, hhf, IsHhf}
 
@@ -29,6 +29,19 @@ EtaKeepsTypes = (bounds : Types) (a c : Typ) (b : Term) → HasType (ty_cons a b
 -- under one more binder a raised term is a term of its type
 abbrev pub RaiseKeepsTypes : Type 0
 RaiseKeepsTypes = (bounds : Types) (a c : Typ) (t : Term) → HasType bounds c t → HasType (ty_cons a bounds) c (raise 1 0 t)
+
+-- a value of type b put for an outer variable and one of type a for an inner one may be put in either order, where the
+-- outer value is put into the inner one too; `inner` are the types of the variables inside of both, `between` those between them
+abbrev pub PutsCommute : Type 0
+PutsCommute = (inner between bounds : Types) (a b : Typ) (w v t : Term) → HasType bounds b w → HasType (join between (ty_cons b bounds)) a v
+    → IsTerm (join inner (ty_cons a (join between (ty_cons b bounds)))) t
+    → put (happ b) w (types_len (join inner between)) (put (happ a) v (types_len inner) t)
+    ≡ put (happ a) (put (happ b) w (types_len between) v) (types_len inner) (put (happ b) w (suc (types_len (join inner between))) t)
+
+-- so for the two outermost variables
+abbrev pub HsubsCommute : Type 0
+HsubsCommute = (bounds : Types) (a b : Typ) (w v t : Term) → HasType bounds b w → HasType (ty_cons b bounds) a v → IsTerm (ty_cons a (ty_cons b bounds)) t
+    → hsub b w (hsub a v t) ≡ hsub a (hsub b w v) (put (happ b) w 1 t)
 
 -- an abstraction over a free variable is a function, which at the variable is the term that it was
 abbrev pub AbstractKeepsTypes : Type 0

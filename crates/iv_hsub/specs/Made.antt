@@ -1,6 +1,6 @@
 -- The indices and depths that the definitions make on the way, each step in order (of this project); they could be too great
 -- for the program. A step that makes none counts as 0, so that the list also says how many steps there are.
-use Rattle.std.specs.Prelude.{ℕ, zero, suc, ◌+◌, ◌≤◌, List, [], ◌∷◌, ◌++◌, ◌&&◌, nat_eq, nat_lt, ◌⊎◌, if◌then◌else◌}
+use Rattle.std.specs.Prelude.{ℕ, suc, ◌+◌, ◌≤◌, List, [], ◌∷◌, ◌++◌, ◌&&◌, nat_eq, nat_lt, ◌⊎◌, if◌then◌else◌}
 use Rattle.iv_term.specs.declared.typ.Typ.{Typ}
 use Rattle.iv_term.specs.declared.term.Head.{Head}
 use Rattle.iv_term.specs.declared.term.Head.TheVariants.{Bound}

@@ -1,5 +1,5 @@
 -- Types of terms, and which trees are terms: well typed, beta-normal and eta-short (Reference Manual, Pure).
-use Rattle.std.specs.Prelude.{◌≡◌, ℕ, zero, suc, ◌<◌, Bool, true, false, not, ◌&&◌, ◌||◌, nat_eq, if◌then◌else◌}
+use Rattle.std.specs.Prelude.{◌≡◌, ℕ, zero, suc, ◌<◌, false}
 use Rattle.iv_term.specs.declared.typ.Typ.{Typ}
 use Rattle.iv_term.specs.declared.typ.Types.{Types}
 use Rattle.iv_term.specs.declared.typ.Typ.TheBlock.{Con, Nil}
@@ -39,6 +39,11 @@ unfoldable pub type_at : Types → ℕ → Typ
 type_at Nil n = prop
 type_at (ty_cons a rest) zero = a
 type_at (ty_cons a rest) (suc n) = type_at rest n
+
+-- some types, and others outside of them
+unfoldable pub join : Types → Types → Types
+join Nil outer = outer
+join (ty_cons a inner) outer = ty_cons a (join inner outer)
 
 -- the type of a head, where the bounds are the types of the bound variables, the innermost first
 abbrev pub head_type : Types → Head → Typ

@@ -1,5 +1,5 @@
 //! The laws of terms that compute, each as the contract of a function that does nothing.
-ghost use Rattle.iv_hsub.specs.Laws.{HsubKeepsTypes, HappKeepsTypes, EtaKeepsTypes, RaiseKeepsTypes, AbstractKeepsTypes, AbstractIsUndone, ImpIsSeen, AllIsSeen, HhfKeepsTypes, HhfHasForm, HhfKeepsForm, HhfIsOnce};
+ghost use Rattle.iv_hsub.specs.Laws.{HsubKeepsTypes, HappKeepsTypes, EtaKeepsTypes, RaiseKeepsTypes, PutsCommute, HsubsCommute, AbstractKeepsTypes, AbstractIsUndone, ImpIsSeen, AllIsSeen, HhfKeepsTypes, HhfHasForm, HhfKeepsForm, HhfIsOnce};
 
 /// Hereditary substitution gives terms: well typed, of the body's type, beta-normal and eta-short. So does what
 /// it is made of: a value at arguments, an abstraction that is contracted, and a term under one more binder.
@@ -8,6 +8,12 @@ pub fn substitution_gives_terms()
     ensures happ { HappKeepsTypes }
     ensures eta { EtaKeepsTypes }
     ensures raise { RaiseKeepsTypes }
+{}
+
+/// Two substitutions commute.
+pub fn substitutions_commute()
+    ensures anywhere { PutsCommute }
+    ensures outermost { HsubsCommute }
 {}
 
 /// An abstraction over a variable is a function of that variable's type; at the variable it is the term again.

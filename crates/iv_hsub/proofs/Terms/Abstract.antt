@@ -1,5 +1,5 @@
 -- Abstraction over a free variable gives a function of that type, which at the variable is the term.
-use Rattle.std.proofs.Common.{◌≡◌, ℕ, zero, suc, pred, ◌+◌, ◌<◌, ◌≤◌, Bool, true, false, not, ◌&&◌, ◌||◌, ◌⊎◌, inl, inr, nat_lt, nat_eq, if◌then◌else◌, refl, sym, ◌∙◌, ap, subst, arith}
+use Rattle.std.proofs.Common.{◌≡◌, ℕ, suc, ◌<◌, Bool, true, false, not, ◌&&◌, ◌||◌, ◌⊎◌, inl, inr, if◌then◌else◌, refl, sym, ◌∙◌, ap, subst, arith}
 use Rattle.std.proofs.lemmas.Bool.{and_parts}
 use Rattle.iv_term.specs.declared.name.Name.{Name}
 use Rattle.iv_term.specs.declared.typ.Typ.{Typ}
@@ -13,16 +13,15 @@ use Rattle.iv_term.specs.declared.term.Term.TheBlock.{Spine, Nil}
 use Rattle.iv_term.specs.Typ.{fun, ty_cons, same_name, same_typ}
 use Rattle.iv_term.specs.Term.{lam, tm_cons, is_nil, is_free}
 use Rattle.iv_term.proofs.Laws.Same.{same_name-true, same_typ-true}
-use Rattle.iv_hsub.specs.Typing.{cod, types_len, type_at, head_type, result_type, type_of, IsHead, IsTerm, AreArgs}
-use Rattle.iv_hsub.specs.Index.{index, raise_head, raise, is_bound, occurs, occurs_in, is_index_0, ends_in_0, front, contracts, eta}
+use Rattle.iv_hsub.specs.Typing.{cod, types_len, head_type, result_type, type_of, IsHead, IsTerm, AreArgs, join}
+use Rattle.iv_hsub.specs.Index.{raise_head, raise, is_bound, occurs, occurs_in, is_index_0, ends_in_0, front, contracts, eta}
 use Rattle.iv_hsub.specs.Hsub.{append, put_head, put, put_all, happ}
-use Rattle.iv_hsub.specs.Hhf.{expand}
 use Rattle.iv_hsub.specs.Abstract.{free, bind_head, bind, bind_all, abstract_over}
-use Rattle.iv_hsub.proofs.Terms.Base.{lt_cases, eq_false, join, types_len-join, type_at-low, type_at-high, type_at-here, cod-fun}
-use Rattle.iv_hsub.proofs.Terms.Raise.{raise-low, raise-high, is_bound-raise, head_type-raise, IsHead-raise}
-use Rattle.iv_hsub.proofs.Terms.Eta.{last, EtaCase, eta_cases, eta-short, IsTerm-eta}
-use Rattle.iv_hsub.proofs.Terms.Put.{happ-nil, happ-spine, happ-lam, put-low, put-here, put-high}
-use Rattle.iv_hsub.proofs.Terms.Cancel.{raise-zero, put_all-append, put_head-cancel, put_all-cancel}
+use Rattle.iv_hsub.proofs.Terms.Base.{eq_false, types_len-join, type_at-here, cod-fun}
+use Rattle.iv_hsub.proofs.Terms.Raise.{is_bound-raise, head_type-raise, IsHead-raise}
+use Rattle.iv_hsub.proofs.Terms.Eta.{EtaCase, eta_cases, eta-short, IsTerm-eta}
+use Rattle.iv_hsub.proofs.Terms.Put.{happ-nil, happ-spine, happ-lam, put-here}
+use Rattle.iv_hsub.proofs.Terms.Cancel.{put_head-cancel, put-expand}
 
 is_free-true : (x y : Name) (a b : Typ) → is_free x a (Free y b) ≡ true → Free x a ≡ Free y b
 is_free-true x y a b q =
@@ -172,14 +171,6 @@ module _ (x : Name) (a : Typ) where
     back_all bs c k (tm_cons t ts) p =
         let e = back bs k t p.1.0 in let g = back_all bs (cod c) k ts p.1.1 in λ i. tm_cons (e i) (g i)
 
-  put-expand : (bs : Types) (v : Term) (h : Head) (ts : Terms) → IsTerm bs (Spine h ts) → put (happ a) v 0 (expand h ts) ≡ Spine h (last ts v)
-  unfolding expand put
-  put-expand bs v h ts p =
-      let e = put_all-cancel (happ a) v bs (head_type bs h) 0 ts p.1 in
-      let f : put (happ a) v 0 (index 0) ≡ v = put-here (happ a) v 0 Nil ∙ happ-nil a (raise 0 0 v) ∙ raise-zero 0 v in
-      let g = put_all-append (happ a) v 0 _ (tm_cons (index 0) Nil) ∙ (λ i. append (e i) (tm_cons (f i) Nil)) in
-      ap (put_head (happ a) v 0 (raise_head 1 0 h)) g ∙ put_head-cancel (happ a) v 0 h (last ts v)
-
   -- the abstraction at the variable is the term
   pub abstract_over-back : (bs : Types) (c : Typ) (t : Term) → IsTerm bs t → happ (fun a c) (abstract_over x a t) (tm_cons (free x a) Nil) ≡ t
   unfolding abstract_over join types_len
@@ -194,4 +185,4 @@ module _ (x : Name) (a : Typ) where
           let r = bind-term no_types bs t p in
           let s = subst (IsTerm bs) q.eta_is (IsTerm-eta bs a (bind x a 0 t) r.0).0 in
           ap (λ z. happ (fun a c) z (tm_cons (free x a) Nil)) q.eta_is ∙ happ-spine (fun a c) q.head q.args (tm_cons (free x a) Nil)
-          ∙ sym (put-expand bs (free x a) q.head q.args s) ∙ ap (put (happ a) (free x a) 0) (sym q.body_is) ∙ back bs 0 t p
+          ∙ sym (put-expand a bs (free x a) q.head q.args s) ∙ ap (put (happ a) (free x a) 0) (sym q.body_is) ∙ back bs 0 t p

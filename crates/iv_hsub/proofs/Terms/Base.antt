@@ -1,11 +1,11 @@
 -- Cases on tests, types joined to bounds, induction on types of functions.
-use Rattle.std.proofs.Common.{◌≡◌, ℕ, zero, suc, pred, ◌+◌, ◌<◌, ◌≤◌, Bool, true, false, ◌⊎◌, inl, inr, nat_lt, nat_eq, refl, sym, ◌∙◌, ap, subst, arith, add-suc, suc-add}
-use Rattle.std.proofs.lemmas.Bool.{lt-ltb, le-ltb, ltb-true, ltb-false, eq-eqb, ne_eqb, eqb-true, eqb-false}
+use Rattle.std.proofs.Common.{◌≡◌, ℕ, zero, suc, ◌+◌, ◌<◌, ◌≤◌, Bool, true, false, ◌⊎◌, inl, inr, nat_lt, nat_eq, refl, ap, subst, arith, add-suc, suc-add}
+use Rattle.std.proofs.lemmas.Bool.{lt-ltb, le-ltb, ltb-true, ltb-false, eq-eqb, ne_eqb}
 use Rattle.iv_term.specs.declared.typ.Typ.{Typ}
 use Rattle.iv_term.specs.declared.typ.Types.{Types}
 use Rattle.iv_term.specs.declared.typ.Typ.TheBlock.{Con, Fixed, Schematic, Nil}
-use Rattle.iv_term.specs.Typ.{prop, fun, ty_cons}
-use Rattle.iv_hsub.specs.Typing.{dom, cod, types_len, type_at}
+use Rattle.iv_term.specs.Typ.{fun, ty_cons}
+use Rattle.iv_hsub.specs.Typing.{dom, cod, types_len, type_at, join}
 
 -- two numbers in their order, with what the tests say
 pub lt_cases : (n c : ℕ) → ((n < c) × (nat_lt n c ≡ true)) ⊎ ((c ≤ n) × (nat_lt n c ≡ false))
@@ -26,11 +26,6 @@ eq_true n k h = eq-eqb n k h
 
 pub eq_false : (n k : ℕ) → (n ≡ k → ⊥) → nat_eq n k ≡ false
 eq_false n k h = ne_eqb n k h
-
--- bounds with others inside
-unfoldable pub join : Types → Types → Types
-join Nil bs = bs
-join (ty_cons a es) bs = ty_cons a (join es bs)
 
 pub types_len-join : (es bs : Types) → types_len (join es bs) ≡ types_len es + types_len bs
 unfolding join types_len

@@ -1,5 +1,5 @@
 -- What undoes a raise.
-use Rattle.std.proofs.Common.{◌≡◌, ℕ, zero, suc, pred, ◌+◌, ◌<◌, ◌≤◌, Bool, true, false, ◌⊎◌, inl, inr, nat_lt, refl, sym, ◌∙◌, ap, subst, arith}
+use Rattle.std.proofs.Common.{◌≡◌, ℕ, suc, pred, ◌+◌, ◌<◌, ◌≤◌, true, false, ◌⊎◌, inl, inr, nat_lt, refl, ◌∙◌, ap, arith}
 use Rattle.iv_term.specs.declared.typ.Typ.{Typ}
 use Rattle.iv_term.specs.declared.typ.Types.{Types}
 use Rattle.iv_term.specs.declared.term.Head.{Head}
@@ -7,15 +7,16 @@ use Rattle.iv_term.specs.declared.term.Head.TheVariants.{Const, Free, Schematic,
 use Rattle.iv_term.specs.declared.term.Term.{Term}
 use Rattle.iv_term.specs.declared.term.Terms.{Terms}
 use Rattle.iv_term.specs.declared.term.Term.TheBlock.{Spine, Nil}
-use Rattle.iv_term.specs.Typ.{fun, ty_cons}
+use Rattle.iv_term.specs.Typ.{ty_cons}
 use Rattle.iv_term.specs.Term.{lam, tm_cons}
 use Rattle.iv_hsub.specs.Typing.{cod, head_type, IsTerm, AreArgs}
-use Rattle.iv_hsub.specs.Index.{raise_head, raise, raise_all, eta}
-use Rattle.iv_hsub.specs.Hsub.{append, put_head, put, put_all}
+use Rattle.iv_hsub.specs.Index.{index, raise_head, raise, raise_all, eta}
+use Rattle.iv_hsub.specs.Hsub.{append, put_head, put, put_all, happ}
+use Rattle.iv_hsub.specs.Hhf.{expand}
 use Rattle.iv_hsub.proofs.Terms.Base.{lt_cases}
 use Rattle.iv_hsub.proofs.Terms.Raise.{raise-low, raise-high}
-use Rattle.iv_hsub.proofs.Terms.Eta.{eta-short}
-use Rattle.iv_hsub.proofs.Terms.Put.{put-low, put-high}
+use Rattle.iv_hsub.proofs.Terms.Eta.{last, eta-short}
+use Rattle.iv_hsub.proofs.Terms.Put.{happ-nil, put-low, put-here, put-high}
 
 -- by nothing
 raise_head-zero : (c : ℕ) (h : Head) → raise_head 0 c h ≡ h
@@ -69,3 +70,12 @@ module _ (f : Term → Terms → Term) (v : Term) where
     put_all-cancel bs a k Nil p = refl
     put_all-cancel bs a k (tm_cons t ts) p =
         let e = put-cancel bs k t p.1.0 in let g = put_all-cancel bs (cod a) k ts p.1.1 in λ i. tm_cons (e i) (g i)
+
+-- a value put for the variable of an abstraction that can be contracted
+pub put-expand : (a : Typ) (bs : Types) (v : Term) (h : Head) (ts : Terms) → IsTerm bs (Spine h ts) → put (happ a) v 0 (expand h ts) ≡ Spine h (last ts v)
+unfolding expand put
+put-expand a bs v h ts p =
+    let e = put_all-cancel (happ a) v bs (head_type bs h) 0 ts p.1 in
+    let f : put (happ a) v 0 (index 0) ≡ v = put-here (happ a) v 0 Nil ∙ happ-nil a (raise 0 0 v) ∙ raise-zero 0 v in
+    let g = put_all-append (happ a) v 0 _ (tm_cons (index 0) Nil) ∙ (λ i. append (e i) (tm_cons (f i) Nil)) in
+    ap (put_head (happ a) v 0 (raise_head 1 0 h)) g ∙ put_head-cancel (happ a) v 0 h (last ts v)

@@ -1,22 +1,22 @@
 -- An abstraction that can be contracted is %x. f x with x not in f, and what it is contracted to is f.
-use Rattle.std.proofs.Common.{◌≡◌, ℕ, zero, suc, pred, ◌+◌, ◌<◌, ◌≤◌, Bool, true, false, not, ◌&&◌, ◌||◌, ◌⊎◌, inl, inr, nat_lt, nat_eq, if◌then◌else◌, refl, sym, ◌∙◌, ap, subst, arith}
+use Rattle.std.proofs.Common.{◌≡◌, ℕ, suc, pred, ◌+◌, ◌<◌, ◌≤◌, Bool, true, false, not, ◌&&◌, ◌||◌, ◌⊎◌, inl, inr, nat_lt, nat_eq, refl, sym, ◌∙◌, ap, subst, arith}
 use Rattle.std.proofs.lemmas.Bool.{and_parts, or_parts, eqb-true, eqb-false, not-true}
 use Rattle.iv_term.specs.declared.typ.Typ.{Typ}
 use Rattle.iv_term.specs.declared.typ.Types.{Types}
-use Rattle.iv_term.specs.declared.typ.Typ.TheBlock.{Con, Fixed, Nil as no_types}
+use Rattle.iv_term.specs.declared.typ.Typ.TheBlock.{Nil as no_types}
 use Rattle.iv_term.specs.declared.term.Head.{Head}
 use Rattle.iv_term.specs.declared.term.Head.TheVariants.{Const, Free, Schematic, Bound}
 use Rattle.iv_term.specs.declared.term.Term.{Term}
 use Rattle.iv_term.specs.declared.term.Terms.{Terms}
 use Rattle.iv_term.specs.declared.term.Term.TheBlock.{Spine, Nil}
-use Rattle.iv_term.specs.Typ.{prop, fun, ty_cons}
+use Rattle.iv_term.specs.Typ.{fun, ty_cons}
 use Rattle.iv_term.specs.Term.{lam, tm_cons, is_nil}
-use Rattle.iv_hsub.specs.Typing.{cod, types_len, type_at, head_type, result_type, type_of, IsHead, IsTerm, AreArgs}
+use Rattle.iv_hsub.specs.Typing.{cod, types_len, type_at, head_type, result_type, type_of, IsTerm, AreArgs, join}
 use Rattle.iv_hsub.specs.Index.{index, raise_head, raise, raise_all, is_bound, occurs, occurs_in, lower_head, lower, lower_all, is_index_0, ends_in_0, front, contracts, contracted, eta}
 use Rattle.iv_hsub.specs.Hsub.{append}
 use Rattle.iv_hsub.specs.Hhf.{expand}
-use Rattle.iv_hsub.proofs.Terms.Base.{lt_cases, lt_true, lt_false, eq_true, eq_false, join, types_len-join, type_at-low, type_at-high}
-use Rattle.iv_hsub.proofs.Terms.Raise.{raise-low, raise-high, is_nil-raise, front-raise, IsTerm-raised, AreArgs-raised, head_type-raise, result-raise}
+use Rattle.iv_hsub.proofs.Terms.Base.{lt_cases, lt_true, lt_false, eq_false}
+use Rattle.iv_hsub.proofs.Terms.Raise.{raise-low, raise-high, IsTerm-raised, head_type-raise, result-raise}
 
 pub lower-low : (c n : ℕ) → n < c → lower_head c (Bound n) ≡ Bound n
 lower-low c n h = rw (lt_true n c h)
@@ -244,7 +244,6 @@ expand-term bs a h ts p =
     let r : result_type c us ≡ result_type (head_type bs h) ts = result-raise 1 0 c ts ∙ ap (λ z. result_type z ts) e in
     let whole : IsTerm (ty_cons a bs) (Spine k us) = (p.0, s.0) in
     let below : IsTerm bs (Spine h ts) = IsTerm-raised no_types (ty_cons a no_types) bs (Spine h ts) whole in
-    let f = ap (λ z. fun a (cod z)) r in
     let g : type_of (ty_cons a bs) (expand h ts) ≡ cod (result_type c us) = result-append c us (tm_cons (index 0) Nil) in
     (below, sym r ∙ s.1.0 ∙ ap (fun a) (sym g))
 

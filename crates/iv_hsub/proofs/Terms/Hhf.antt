@@ -1,5 +1,5 @@
 -- hhf of a term is a term of the same type that has the form, and hhf changes no term that has it.
-use Rattle.std.proofs.Common.{◌≡◌, ℕ, zero, suc, pred, ◌+◌, ◌<◌, ◌≤◌, Bool, true, false, not, ◌&&◌, ◌||◌, ◌⊎◌, inl, inr, nat_lt, codes, if◌then◌else◌, refl, sym, ◌∙◌, ap, subst, arith}
+use Rattle.std.proofs.Common.{◌≡◌, ℕ, suc, Bool, true, false, ◌&&◌, ◌⊎◌, inl, inr, codes, if◌then◌else◌, refl, sym, ◌∙◌, ap, subst, arith}
 use Rattle.std.proofs.lemmas.Bool.{and_parts}
 use Rattle.std.specs.Str.{bytes_eq}
 use Rattle.iv_term.specs.declared.typ.Typ.{Typ}
@@ -11,15 +11,14 @@ use Rattle.iv_term.specs.declared.term.Term.{Term}
 use Rattle.iv_term.specs.declared.term.Terms.{Terms}
 use Rattle.iv_term.specs.declared.term.Term.TheBlock.{Spine, Nil}
 use Rattle.iv_term.specs.Typ.{prop, fun, ty_cons, same_typ}
-use Rattle.iv_term.specs.Term.{lam, tm_cons, implies, imp_head, imp, is_nil, is_one, are_two, first_or, rest_of, antecedent, consequent}
+use Rattle.iv_term.specs.Term.{lam, tm_cons, implies, imp_head, imp, is_nil, is_one, are_two}
 use Rattle.iv_term.proofs.Laws.Same.{same_text-true, same_typ-true}
-use Rattle.iv_term.proofs.Laws.Tests.{are_two-parts}
-use Rattle.iv_hsub.specs.Typing.{dom, cod, types_len, type_at, head_type, result_type, type_of, IsHead, IsTerm, AreArgs}
+use Rattle.iv_hsub.specs.Typing.{dom, cod, types_len, type_at, head_type, result_type, type_of, IsTerm, AreArgs, join}
 use Rattle.iv_hsub.specs.Index.{index, raise_head, raise, raise_all, contracts, eta}
 use Rattle.iv_hsub.specs.Hsub.{append}
-use Rattle.iv_hsub.specs.Hhf.{all_typ, all_head, is_imp, is_all, bound_type, one, expand, all_of, push_expanded, push, push_args, push_under, hhf_spine, hhf, hhf_all, is_quantified, IsFirstPlain, IsSecondPlain, IsHhf, AreHhf}
-use Rattle.iv_hsub.proofs.Terms.Base.{lt_cases, join, fun-parts, cod-fun}
-use Rattle.iv_hsub.proofs.Terms.Raise.{raise-low, raise-high, is_nil-raise, IsTerm-raise, AreArgs-raise, type_of-raise, head_type-raise, IsHead-raise, result-raise}
+use Rattle.iv_hsub.specs.Hhf.{all_typ, all_head, is_imp, is_all, bound_type, one, expand, all_of, push_expanded, push, push_args, push_under, hhf_spine, hhf, hhf_all, is_quantified, IsSecondPlain, IsHhf, AreHhf}
+use Rattle.iv_hsub.proofs.Terms.Base.{fun-parts}
+use Rattle.iv_hsub.proofs.Terms.Raise.{is_nil-raise, IsTerm-raise, AreArgs-raise, type_of-raise, head_type-raise, IsHead-raise, result-raise}
 use Rattle.iv_hsub.proofs.Terms.Eta.{last, eta_cases, EtaCase, eta-short, IsTerm-eta, result-append, AreArgs-append}
 use Rattle.iv_hsub.proofs.Terms.Put.{Has}
 

@@ -1,12 +1,10 @@
 -- The numbers that substitution makes, step by step, for the code's answers.
-use Rattle.std.proofs.Common.{◌≡◌, ℕ, zero, suc, ◌+◌, ◌<◌, Bool, true, false, IsTrue, ◌↔◌, List, [], ◌∷◌, ◌++◌, length, nat_lt, nat_eq, if◌then◌else◌, refl, sym, ◌∙◌, ap, subst, arith, length-append}
+use Rattle.std.proofs.Common.{◌≡◌, ℕ, ◌<◌, Bool, true, false, IsTrue, ◌↔◌, List, ◌∷◌, ◌++◌, length, refl, sym, ◌∙◌, ap, subst, arith, length-append}
 use Rattle.iv_term.specs.declared.typ.Typ.{Typ}
-use Rattle.iv_term.specs.declared.typ.Typ.TheBlock.{Con, Nil as no_types}
-use Rattle.iv_term.specs.declared.term.Head.{Head}
 use Rattle.iv_term.specs.declared.term.Head.TheVariants.{Bound}
 use Rattle.iv_term.specs.declared.term.Term.{Term}
 use Rattle.iv_term.specs.declared.term.Terms.{Terms}
-use Rattle.iv_term.specs.Typ.{fun, ty_cons}
+use Rattle.iv_term.specs.Typ.{fun}
 use Rattle.iv_term.specs.Term.{lam, tm_cons}
 use Rattle.iv_term.proofs.Laws.Same.{same_typ-same}
 use Rattle.iv_hsub.specs.Typing.{dom, cod}

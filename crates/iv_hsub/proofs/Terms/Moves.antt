@@ -2,7 +2,6 @@
 use Rattle.std.proofs.Common.{◌≡◌, ℕ, Bool, true, false, ◌&&◌, IsTrue, ◌↔◌, List, codes, if◌then◌else◌, refl, sym, ◌∙◌, ap, subst}
 use Rattle.std.proofs.lemmas.Bool.{and_parts}
 use Rattle.std.proofs.lemmas.Bool.Decides.{same_from_decides}
-use Rattle.std.specs.Bool.{Decides}
 use Rattle.std.specs.Str.{bytes_eq}
 use Rattle.iv_term.specs.declared.typ.Typ.{Typ}
 use Rattle.iv_term.specs.declared.term.Head.{Head}
@@ -11,7 +10,7 @@ use Rattle.iv_term.specs.declared.term.Term.{Term}
 use Rattle.iv_term.specs.declared.term.Terms.{Terms}
 use Rattle.iv_term.specs.declared.term.Term.TheBlock.{Spine, Nil}
 use Rattle.iv_term.specs.Typ.{prop, fun, same_typ}
-use Rattle.iv_term.specs.Term.{lam, tm_cons, implies, imp_head, imp, first_or, rest_of, is_nil, are_two, antecedent, consequent, IsImplication}
+use Rattle.iv_term.specs.Term.{lam, tm_cons, implies, imp_head, first_or, rest_of, are_two, antecedent, consequent, IsImplication}
 use Rattle.iv_term.proofs.Laws.Same.{same_text-same, same_typ-same, same_typ-Decides}
 use Rattle.iv_term.proofs.Laws.Tests.{are_two-parts, spine-parts}
 use Rattle.iv_hsub.specs.Typing.{dom, cod}

@@ -1,5 +1,5 @@
 -- Hereditary substitution: what a value is at arguments, and the result is a term of the same type.
-use Rattle.std.proofs.Common.{◌≡◌, ℕ, zero, suc, pred, ◌+◌, ◌<◌, ◌≤◌, Bool, true, false, ◌⊎◌, inl, inr, nat_lt, nat_eq, if◌then◌else◌, refl, sym, ◌∙◌, ap, subst, arith}
+use Rattle.std.proofs.Common.{◌≡◌, ℕ, suc, pred, ◌+◌, ◌<◌, Bool, true, false, ◌⊎◌, inl, inr, if◌then◌else◌, refl, sym, ◌∙◌, ap, subst, arith}
 use Rattle.iv_term.specs.declared.typ.Typ.{Typ}
 use Rattle.iv_term.specs.declared.typ.Types.{Types}
 use Rattle.iv_term.specs.declared.typ.Typ.TheBlock.{Con, Fixed, Schematic as Variable, Nil as no_types}
@@ -8,13 +8,13 @@ use Rattle.iv_term.specs.declared.term.Head.TheVariants.{Const, Free, Schematic,
 use Rattle.iv_term.specs.declared.term.Term.{Term}
 use Rattle.iv_term.specs.declared.term.Terms.{Terms}
 use Rattle.iv_term.specs.declared.term.Term.TheBlock.{Spine, Nil}
-use Rattle.iv_term.specs.Typ.{prop, fun, ty_cons, same_typ}
+use Rattle.iv_term.specs.Typ.{fun, ty_cons, same_typ}
 use Rattle.iv_term.specs.Term.{lam, tm_cons}
 use Rattle.iv_term.proofs.Laws.Same.{same_typ-true, same_typ-same}
-use Rattle.iv_hsub.specs.Typing.{cod, types_len, type_at, head_type, result_type, type_of, IsHead, IsTerm, AreArgs}
-use Rattle.iv_hsub.specs.Index.{raise, contracts, eta}
+use Rattle.iv_hsub.specs.Typing.{cod, types_len, type_at, head_type, result_type, type_of, IsHead, IsTerm, AreArgs, join}
+use Rattle.iv_hsub.specs.Index.{raise}
 use Rattle.iv_hsub.specs.Hsub.{append, put_head, put, put_all, happ, hsub}
-use Rattle.iv_hsub.proofs.Terms.Base.{lt_cases, lt_true, lt_false, eq_true, eq_false, join, types_len-join, type_at-low, type_at-high, type_at-here, fun_induction, fun-parts}
+use Rattle.iv_hsub.proofs.Terms.Base.{lt_true, lt_false, eq_true, eq_false, types_len-join, type_at-low, type_at-high, type_at-here, fun_induction, fun-parts}
 use Rattle.iv_hsub.proofs.Terms.Raise.{IsTerm-raise, type_of-raise}
 use Rattle.iv_hsub.proofs.Terms.Eta.{append-nil, result-append, AreArgs-append, IsTerm-eta}
 
@@ -121,7 +121,6 @@ module _ (a : Typ) (f : Term → Terms → Term) (good : Good a f) (bs : Types) 
           let g = good (join es bs) (raise (types_len es) 0 v) us w z (subst (λ c. AreArgs (join es bs) c us) e q) in
           subst (Has (join es bs) (result_type (type_at (join es (ty_cons a bs)) n) us)) (sym r) (g.0, g.1 ∙ ap (λ c. result_type c us) (sym e))
       go (inr (inr h)) =
-          let m = pred n in
           let up : pred n + 1 ≡ n = omega (arith, h) in
           let e : type_at (join es (ty_cons a bs)) n ≡ type_at (join es bs) (pred n) = ap (type_at (join es (ty_cons a bs))) (sym up) ∙ type_at-high es (ty_cons a no_types) bs (pred n) (omega (arith, h)) in
           subst (Has (join es bs) (result_type (type_at (join es (ty_cons a bs)) n) us)) (sym (put-high f v (types_len es) n us h))
@@ -149,7 +148,7 @@ module _ (a : Typ) (f : Term → Terms → Term) (good : Good a f) (bs : Types) 
         (p.0 ∙ ap (λ z. fun z (cod c)) (sym r.1), (r.0, put-args es (cod c) ts p.1.1))
 
 -- a type of functions at its first argument
-lam-type : (bs : Types) (a d : Typ) (b u : Term) → type_of bs (lam d b) ≡ a → a ≡ fun (type_of bs u) (cod a)
+pub lam-type : (bs : Types) (a d : Typ) (b u : Term) → type_of bs (lam d b) ≡ a → a ≡ fun (type_of bs u) (cod a)
     → (a ≡ fun d (cod a)) × ((type_of bs u ≡ d) × (type_of (ty_cons d bs) b ≡ cod a))
 unfolding type_of
 lam-type bs a d b u e f =

@@ -1,19 +1,17 @@
 -- Raising keeps types and terms, both ways.
-use Rattle.std.proofs.Common.{◌≡◌, ℕ, zero, suc, pred, ◌+◌, ◌<◌, ◌≤◌, Bool, true, false, not, ◌&&◌, ◌||◌, ◌⊎◌, inl, inr, nat_lt, nat_eq, if◌then◌else◌, refl, sym, ◌∙◌, ap, subst, arith}
-use Rattle.std.proofs.lemmas.Bool.{cond-true, cond-false}
+use Rattle.std.proofs.Common.{◌≡◌, ℕ, suc, ◌+◌, ◌<◌, ◌≤◌, true, false, not, ◌&&◌, ◌||◌, ◌⊎◌, inl, inr, nat_lt, refl, sym, ◌∙◌, ap, subst, arith}
 use Rattle.iv_term.specs.declared.typ.Typ.{Typ}
 use Rattle.iv_term.specs.declared.typ.Types.{Types}
-use Rattle.iv_term.specs.declared.typ.Typ.TheBlock.{Con, Fixed, Nil as no_types}
 use Rattle.iv_term.specs.declared.term.Head.{Head}
 use Rattle.iv_term.specs.declared.term.Head.TheVariants.{Const, Free, Schematic, Bound}
 use Rattle.iv_term.specs.declared.term.Term.{Term}
 use Rattle.iv_term.specs.declared.term.Terms.{Terms}
 use Rattle.iv_term.specs.declared.term.Term.TheBlock.{Spine, Nil}
-use Rattle.iv_term.specs.Typ.{prop, fun, ty_cons}
+use Rattle.iv_term.specs.Typ.{fun, ty_cons}
 use Rattle.iv_term.specs.Term.{lam, tm_cons, is_nil}
-use Rattle.iv_hsub.specs.Typing.{cod, types_len, type_at, head_type, result_type, type_of, IsHead, IsTerm, AreArgs}
-use Rattle.iv_hsub.specs.Index.{index, raise_head, raise, raise_all, is_bound, occurs, occurs_in, is_index_0, ends_in_0, front, contracts}
-use Rattle.iv_hsub.proofs.Terms.Base.{lt_cases, lt_true, lt_false, eq_true, eq_false, join, types_len-join, type_at-low, type_at-high}
+use Rattle.iv_hsub.specs.Typing.{cod, types_len, type_at, head_type, result_type, type_of, IsHead, IsTerm, AreArgs, join}
+use Rattle.iv_hsub.specs.Index.{raise_head, raise, raise_all, is_bound, occurs, occurs_in, is_index_0, ends_in_0, front, contracts}
+use Rattle.iv_hsub.proofs.Terms.Base.{lt_cases, lt_true, lt_false, eq_false, types_len-join, type_at-low, type_at-high}
 
 pub raise-low : (d c n : ℕ) → n < c → raise_head d c (Bound n) ≡ Bound n
 raise-low d c n h = rw (lt_true n c h)

@@ -5,7 +5,7 @@ use Rattle.iv_term.specs.declared.typ.Types.{Types}
 use Rattle.iv_term.specs.declared.term.Head.{Head}
 use Rattle.iv_term.specs.declared.term.Term.{Term}
 use Rattle.iv_term.specs.declared.term.Terms.{Terms}
-use Rattle.iv_term.specs.declared.term.Term.TheBlock.{Spine, Nil}
+use Rattle.iv_term.specs.declared.term.Term.TheBlock.{Spine}
 use Rattle.iv_term.specs.Typ.{fun, ty_cons}
 use Rattle.iv_term.specs.Term.{lam, tm_cons}
 use Rattle.iv_hsub.specs.Typing.{dom, cod, head_type, result_type, type_of, IsHead, IsTerm, AreArgs}

@@ -1,11 +1,11 @@
-use Rattle.std.proofs.Common.{refl, sym, ◌∙◌, inl, inr, suc, add-one}
+use Rattle.std.proofs.Common.{refl, inl, inr, suc, add-one}
 use Rattle.std.proofs.lemmas.Bool.{iff_false}
 use Rattle.iv_term.specs.Term.{abs_is, cons_is}
-use Rattle.iv_hsub.specs.Hsub.{put, put_all, happ}
-use Rattle.iv_hsub.specs.Made.{made_put, made_put_all, made_happ}
+use Rattle.iv_hsub.specs.Hsub.{put, put_all}
+use Rattle.iv_hsub.specs.Made.{made_put, made_put_all}
 use Rattle.iv_hsub.proofs.Terms.Past.{exit, past-left, past-right, weaker}
 use Rattle.iv_hsub.proofs.Terms.Made.{made_happ-lam, made-here, shorter, shorter-left, shorter-right}
-use Rattle.iv_hsub.proofs.Terms.Put.{happ-nil, happ-spine, happ-lam, happ-stuck, put-here}
+use Rattle.iv_hsub.proofs.Terms.Put.{happ-nil, happ-spine, happ-lam, happ-stuck}
 use Rattle.iv_hsub.proofs.substitution.+hsub.Goals as goal
 
 pub put-put-requires : goal.put-put-requires

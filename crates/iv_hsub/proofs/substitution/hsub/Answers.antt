@@ -1,6 +1,4 @@
-use Rattle.std.proofs.Common.{sym, subst}
 use Rattle.std.proofs.lemmas.Result.{IfOk-weaker}
-use Rattle.iv_hsub.specs.Typing.{type_of, IsTerm}
 use Rattle.iv_hsub.specs.Hsub.{hsub}
 use Rattle.iv_hsub.specs.Made.{made_hsub}
 use Rattle.iv_hsub.proofs.Terms.Put.{hsub-term}

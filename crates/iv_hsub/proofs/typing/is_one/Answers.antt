@@ -1,4 +1,3 @@
-use Rattle.std.proofs.Common.{refl}
 use Rattle.iv_term.specs.Typ.{cons_is}
 use Rattle.iv_hsub.specs.Typing.{types_len}
 use Rattle.iv_hsub.proofs.Terms.Types.{one_when}
