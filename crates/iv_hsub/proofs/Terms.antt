@@ -1,0 +1,15 @@
+pub mod Base
+pub mod Raise
+pub mod Eta
+pub mod Put
+pub mod Past
+pub mod Types
+pub mod Tests
+pub mod Made
+pub mod Closed
+pub mod Cancel
+pub mod Abstract
+pub mod Hhf
+pub mod Moves
+pub mod Algebra
+pub mod Commute

@@ -1,0 +1,5 @@
+use Rattle.iv_term.specs.Typ.{cons_is}
+use Rattle.iv_hsub.proofs.typing.second_typ.Goals as goal
+
+pub returns-in-Cons : goal.returns-in-Cons
+returns-in-Cons c = rw (c.in-Cons.is, cons_is, ← c.get.ensures) c.first_typ.ensures
