@@ -1,0 +1,4 @@
+pub mod Put
+pub mod Differ
+pub mod Solve
+pub mod Entries

@@ -1,0 +1,266 @@
+-- Laws of the turns: what they find is a most general unifier, and they find one where there is one.
+use Rattle.std.proofs.Common.{◌≡◌, ℕ, Bool, true, false, refl, sym, ◌∙◌, ap, subst, List, [], ◌∷◌, ◌++◌, Option, None, Some, if◌then◌else◌, ◌<◌, zero, suc, arith, length}
+use Rattle.iv_term.specs.declared.name.Name.{Name}
+use Rattle.iv_term.specs.declared.typ.Typ.{Typ}
+use Rattle.iv_term.specs.declared.typ.Types.{Types}
+use Rattle.iv_term.specs.declared.typ.Typ.TheBlock.{Con, Fixed, Schematic, Nil}
+use Rattle.iv_term.specs.Typ.{ty_cons, same_name}
+use Rattle.iv_term.proofs.Laws.Same.{same_name-true, same_name-same}
+use Rattle.iv_subst.specs.TySubst.{put_typ, then_put, single, occurs, occurs_any, TyMap, at, assign}
+use Rattle.iv_subst.specs.Unifier.{IsUnifier, IsSolved, Difference, nowhere, clash, variable, differ, variables, variables_all, turn, stuck, solve, unified}
+use Rattle.iv_subst.proofs.Laws.Put.{put-variable, put-none, put-put, put-same, single-absorbed, single-instance, same_name-turned, or-left, or-right, at-assign}
+use Rattle.iv_subst.proofs.Laws.Differ.{differ-nowhere, differ-needs, Needs, differ-apart, Apart, Each, EachOf, Each-put, EachIn, differ-each, occurs-apart}
+
+-- soundness and generality
+
+-- r is s and then m, where m makes both types equal and every unifier goes through m
+pub record Solution (s : TyMap) (a b : Typ) (r : TyMap) : Type 0 where
+  pub by_map : Name → Typ
+  pub after : (y : Name) → at r y ≡ put_typ by_map (at s y)
+  pub unifier : put_typ by_map a ≡ put_typ by_map b
+  pub absorbed : (g : Name → Typ) → put_typ g a ≡ put_typ g b → (y : Name) → put_typ g (by_map y) ≡ g y
+
+abbrev pub Sound : (TyMap → Typ → Typ → Option TyMap) → Type 0
+Sound next = (s : TyMap) (a b : Typ) (r : TyMap) → next s a b ≡ Some r → Solution s a b r
+
+some-is : (s r : TyMap) → Some s ≡ Some r → s ≡ r
+some-is s r e = cc
+
+later : (s : TyMap) (x : Name) (t a b : Typ) (r : TyMap) → ((g : Name → Typ) → put_typ g a ≡ put_typ g b → g x ≡ put_typ g t)
+    → Solution (assign s x t) (put_typ (single x t) a) (put_typ (single x t) b) r → Solution s a b r
+later s x t a b r needs q = record {
+  by_map = then_put (single x t) q.by_map;
+  after = λ y. q.after y ∙ ap (put_typ q.by_map) (at-assign s x t y) ∙ put-put (single x t) q.by_map (at s y);
+  unifier = sym (put-put (single x t) q.by_map a) ∙ q.unifier ∙ put-put (single x t) q.by_map b;
+  absorbed = λ g u y.
+      let n = needs g u in
+      let w : put_typ g (put_typ (single x t) a) ≡ put_typ g (put_typ (single x t) b) =
+      single-instance g x t n a ∙ u ∙ sym (single-instance g x t n b) in
+      put-put q.by_map g (single x t y) ∙ put-same (then_put q.by_map g) g (q.absorbed g w) (single x t y) ∙ single-absorbed g x t n y;
+}
+
+if-some : (next : Option TyMap) (r : TyMap) (v : Bool) → (if v then None else next) ≡ Some r → next ≡ Some r
+if-some next r true h = absurd (let bad : None ≡ Some r = h in cc)
+if-some next r false h = h
+
+turn-sound : (next : TyMap → Typ → Typ → Option TyMap) → Sound next → (s : TyMap) (a b : Typ) (r : TyMap) (d : Difference)
+    → differ a b ≡ d → turn next s a b d ≡ Some r → Solution s a b r
+unfolding turn
+turn-sound next k s a b r nowhere e h = record {
+  by_map = Schematic;
+  after = λ y. ap (λ m. at m y) (sym (some-is s r h)) ∙ sym (put-none (at s y));
+  unifier = ap (put_typ Schematic) (differ-nowhere a b e);
+  absorbed = λ g u y. put-variable g y;
+}
+turn-sound next k s a b r clash e h = absurd (let bad : None ≡ Some r = h in cc)
+turn-sound next k s a b r (variable x t) e h =
+    let n : (g : Name → Typ) → put_typ g a ≡ put_typ g b → g x ≡ put_typ g t =
+    λ g u. subst (Needs g) e (differ-needs g a b u) in
+    later s x t a b r n (k _ _ _ r (if-some _ r (occurs x t) h))
+
+stuck-sound : Sound stuck
+stuck-sound s a b r h = absurd (let bad : None ≡ Some r = h in cc)
+
+pub solve-sound : (n : ℕ) → Sound (solve n)
+unfolding solve
+solve-sound zero s a b r h = turn-sound stuck stuck-sound s a b r (differ a b) refl h
+solve-sound (suc n) s a b r h = turn-sound (solve n) (solve-sound n) s a b r (differ a b) refl h
+
+-- names in a list, and without one of them
+unfoldable pub among : Name → List Name → Bool
+among x [] = false
+among x (y ∷ vs) = if same_name x y then true else among x vs
+
+unfoldable pub without : Name → List Name → List Name
+without x [] = []
+without x (y ∷ vs) = if same_name x y then vs else y ∷ without x vs
+
+abbrev pub In : List Name → Name → Type 0
+In vs x = among x vs ≡ true
+
+without-by : (x y : Name) (vs : List Name) (v : Bool) → (v ≡ false → suc (length (without x vs)) ≡ length vs)
+    → suc (length (if v then vs else y ∷ without x vs)) ≡ suc (length vs)
+without-by x y vs true k = refl
+without-by x y vs false k = ap suc (k refl)
+
+in-by : (x y : Name) (vs : List Name) (v : Bool) → (if v then true else among x vs) ≡ true → v ≡ false → among x vs ≡ true
+in-by x y vs true h q = absurd (let bad : true ≡ false = q in cc)
+in-by x y vs false h q = h
+
+pub without-shorter : (x : Name) (vs : List Name) → In vs x → suc (length (without x vs)) ≡ length vs
+unfolding among without
+without-shorter x [] h = absurd (let bad : false ≡ true = h in cc)
+without-shorter x (y ∷ vs) h = without-by x y vs (same_name x y) (λ q. without-shorter x vs (in-by x y vs (same_name x y) h q))
+
+pub in-here : (y : Name) (vs : List Name) → among y (y ∷ vs) ≡ true
+unfolding among
+in-here y vs = rw (same_name-same y)
+
+in-behind-by : (v w : Bool) → w ≡ true → (if v then true else w) ≡ true
+in-behind-by true w h = refl
+in-behind-by false w h = h
+
+pub in-behind : (z y : Name) (vs : List Name) → among z vs ≡ true → among z (y ∷ vs) ≡ true
+unfolding among
+in-behind z y vs h = in-behind-by (same_name z y) (among z vs) h
+
+-- another name stays
+still-by : (z x y : Name) (vs : List Name) → same_name z x ≡ false → (among z vs ≡ true → among z (without x vs) ≡ true)
+    → (v : Bool) → same_name x y ≡ v → (w : Bool) → same_name z y ≡ w → (if w then true else among z vs) ≡ true
+    → among z (if v then vs else y ∷ without x vs) ≡ true
+unfolding among
+still-by z x y vs n k true e true f h = absurd (let p : z ≡ y = same_name-true z y f in let q : x ≡ y = same_name-true x y e in
+    let bad : true ≡ false = sym (same_name-same z) ∙ ap (same_name z) (p ∙ sym q) ∙ n in cc)
+still-by z x y vs n k true e false f h = h
+still-by z x y vs n k false e true f h = rw f
+still-by z x y vs n k false e false f h = rw f (k h)
+
+pub without-still : (z x : Name) (vs : List Name) → same_name z x ≡ false → In vs z → In (without x vs) z
+unfolding without among
+without-still z x [] n h = h
+without-still z x (y ∷ vs) n h = still-by z x y vs n (without-still z x vs n) (same_name x y) refl (same_name z y) refl h
+
+-- the variables of a type without x
+mutual
+  unfolding Each EachOf occurs occurs_any
+
+  pub each-without : (x : Name) (vs : List Name) (t : Typ) → occurs x t ≡ false → Each (In vs) t → Each (In (without x vs)) t
+  each-without x vs (Con c ts) n h = each_all-without x vs ts n h
+  each-without x vs (Fixed a) n h = tt
+  each-without x vs (Schematic y) n h = without-still y x vs (same_name-turned x y n) h
+
+  pub each_all-without : (x : Name) (vs : List Name) (ts : Types) → occurs_any x ts ≡ false → EachOf (In vs) ts → EachOf (In (without x vs)) ts
+  each_all-without x vs Nil n h = tt
+  each_all-without x vs (ty_cons t ts) n h =
+      (each-without x vs t (or-left (occurs x t) (occurs_any x ts) n) h.0, each_all-without x vs ts (or-right (occurs x t) (occurs_any x ts) n) h.1)
+
+single_by : (x : Name) (t : Typ) (vs : List Name) → Each (In (without x vs)) t → (y : Name) → In vs y → (v : Bool) → same_name y x ≡ v
+    → Each (In (without x vs)) (if v then t else Schematic y)
+unfolding Each
+single_by x t vs k y h true e = k
+single_by x t vs k y h false e = without-still y x vs e h
+
+-- once t without x is put for x, x is gone
+pub each-single : (x : Name) (t : Typ) (vs : List Name) → occurs x t ≡ false → Each (In vs) t → (a : Typ) → Each (In vs) a
+    → Each (In (without x vs)) (put_typ (single x t) a)
+unfolding single
+each-single x t vs n h a k = Each-put (In vs) (In (without x vs)) (single x t) a
+    (λ y q. single_by x t vs (each-without x vs t n h) y q (same_name y x) refl) k
+
+-- enough turns
+
+abbrev pub Complete : ℕ → (TyMap → Typ → Typ → Option TyMap) → Type 0
+Complete n next = (vs : List Name) (s : TyMap) (a b : Typ) → length vs < n → Each (In vs) a → Each (In vs) b → next s a b ≡ None
+    → (g : Name → Typ) → put_typ g a ≡ put_typ g b → ⊥
+
+if-none : (next : Option TyMap) (v : Bool) → (if v then None else next) ≡ None → v ≡ false → next ≡ None
+if-none next true h q = absurd (let bad : true ≡ false = q in cc)
+if-none next false h q = h
+
+more-turns : (next : TyMap → Typ → Typ → Option TyMap) (n : ℕ) → Complete n next → (vs : List Name) (s : TyMap) (x : Name) (t a b : Typ)
+    → length vs < suc n → Each (In vs) a → Each (In vs) b → In vs x → Each (In vs) t → (g : Name → Typ) → put_typ g a ≡ put_typ g b → g x ≡ put_typ g t
+    → (t ≡ Schematic x → ⊥) → (v : Bool) → occurs x t ≡ v
+    → (if v then None else next (assign s x t) (put_typ (single x t) a) (put_typ (single x t) b)) ≡ None → ⊥
+more-turns next n k vs s x t a b l p q i j g u e apart true o h = occurs-apart g x t apart o e
+more-turns next n k vs s x t a b l p q i j g u e apart false o h =
+    let shorter = without-shorter x vs i in
+    k (without x vs) (assign s x t) (put_typ (single x t) a) (put_typ (single x t) b) (omega arith)
+    (each-single x t vs o j a p) (each-single x t vs o j b q) h
+    g (single-instance g x t e a ∙ u ∙ sym (single-instance g x t e b))
+
+turn-complete : (next : TyMap → Typ → Typ → Option TyMap) (n : ℕ) → Complete n next → (vs : List Name) (s : TyMap) (a b : Typ)
+    → length vs < suc n → Each (In vs) a → Each (In vs) b → (d : Difference) → differ a b ≡ d → turn next s a b d ≡ None
+    → (g : Name → Typ) → put_typ g a ≡ put_typ g b → ⊥
+unfolding turn
+turn-complete next n k vs s a b l p q nowhere e h g u = let bad : Some s ≡ None = h in cc
+turn-complete next n k vs s a b l p q clash e h g u = subst (Needs g) e (differ-needs g a b u)
+turn-complete next n k vs s a b l p q (variable x t) e h g u =
+    let each : EachIn (In vs) (variable x t) = subst (EachIn (In vs)) e (differ-each (In vs) a b p q) in
+    let apart : Apart (variable x t) = subst Apart e (differ-apart a b) in
+    let needs : Needs g (variable x t) = subst (Needs g) e (differ-needs g a b u) in
+    more-turns next n k vs s x t a b l p q each.0 each.1 g u needs apart (occurs x t) refl h
+
+none-shorter : Complete 0 stuck
+none-shorter vs s a b l p q h g u = absurd (omega arith)
+
+pub solve-complete : (n : ℕ) → Complete (suc n) (solve n)
+unfolding solve
+solve-complete zero vs s a b l p q h g u = turn-complete stuck 0 none-shorter vs s a b l p q (differ a b) refl h g u
+solve-complete (suc n) vs s a b l p q h g u = turn-complete (solve n) (suc n) (solve-complete n) vs s a b l p q (differ a b) refl h g u
+
+-- all variables of a type are among its variables
+left-by : (v : Bool) (w z : Bool) → (w ≡ true → z ≡ true) → (if v then true else w) ≡ true → (if v then true else z) ≡ true
+left-by true w z k h = refl
+left-by false w z k h = k h
+
+among-left : (x : Name) (vs us : List Name) → among x vs ≡ true → among x (vs ++ us) ≡ true
+unfolding among
+among-left x [] us h = absurd (let bad : false ≡ true = h in cc)
+among-left x (y ∷ vs) us h = left-by (same_name x y) (among x vs) (among x (vs ++ us)) (among-left x vs us) h
+
+pub among-right : (x : Name) (vs us : List Name) → among x us ≡ true → among x (vs ++ us) ≡ true
+unfolding among
+among-right x [] us h = h
+among-right x (y ∷ vs) us h = in-behind-by (same_name x y) (among x (vs ++ us)) (among-right x vs us h)
+
+mutual
+  unfolding Each EachOf
+
+  pub Each-more : (P Q : Name → Type 0) → ((x : Name) → P x → Q x) → (t : Typ) → Each P t → Each Q t
+  Each-more P Q k (Con c ts) h = EachOf-more P Q k ts h
+  Each-more P Q k (Fixed a) h = tt
+  Each-more P Q k (Schematic x) h = k x h
+
+  pub EachOf-more : (P Q : Name → Type 0) → ((x : Name) → P x → Q x) → (ts : Types) → EachOf P ts → EachOf Q ts
+  EachOf-more P Q k Nil h = tt
+  EachOf-more P Q k (ty_cons t ts) h = (Each-more P Q k t h.0, EachOf-more P Q k ts h.1)
+
+mutual
+  unfolding Each EachOf variables variables_all
+
+  pub each-variables : (t : Typ) → Each (In (variables t)) t
+  each-variables (Con c ts) = each_all-variables ts
+  each-variables (Fixed a) = tt
+  each-variables (Schematic x) = in-here x []
+
+  pub each_all-variables : (ts : Types) → EachOf (In (variables_all ts)) ts
+  each_all-variables Nil = tt
+  each_all-variables (ty_cons t ts) = (
+    Each-more (In (variables t)) (In (variables t ++ variables_all ts)) (λ x h. among-left x (variables t) (variables_all ts) h) t (each-variables t),
+    EachOf-more (In (variables_all ts)) (In (variables t ++ variables_all ts)) (λ x h. among-right x (variables t) (variables_all ts) h) ts (each_all-variables ts),
+  )
+
+pub each-left : (a b : Typ) → Each (In (variables a ++ variables b)) a
+each-left a b = Each-more (In (variables a)) (In (variables a ++ variables b)) (λ x h. among-left x (variables a) (variables b) h) a (each-variables a)
+
+pub each-right : (a b : Typ) → Each (In (variables a ++ variables b)) b
+each-right a b = Each-more (In (variables b)) (In (variables a ++ variables b)) (λ x h. among-right x (variables a) (variables b) h) b (each-variables b)
+
+-- what the laws say of the unification of two types under a map
+
+solved-by : (s : TyMap) (a b : Typ) (r : TyMap) → Solution s a b r → IsSolved s a b r
+solved-by s a b r q = record {
+  by_map = q.by_map;
+  after = q.after;
+  most_general = record {
+    unifier = q.unifier;
+    general = λ g u. (g, λ x. sym (q.absorbed g u x));
+    absorbed = q.absorbed;
+    idempotent = q.absorbed q.by_map q.unifier;
+  };
+}
+
+pub unified-solved : (a b : Typ) (s r : TyMap) → unified a b s ≡ Some r → IsSolved s (put_typ (at s) a) (put_typ (at s) b) r
+unfolding unified
+unified-solved a b s r h = solved-by s _ _ r (solve-sound _ s _ _ r h)
+
+pub solved-equal : (a b : Typ) (s r : TyMap) → IsSolved s (put_typ (at s) a) (put_typ (at s) b) r → put_typ (at r) a ≡ put_typ (at r) b
+solved-equal a b s r q =
+    let go : (t : Typ) → put_typ (at r) t ≡ put_typ q.by_map (put_typ (at s) t) =
+    λ t. put-same _ _ q.after t ∙ sym (put-put (at s) q.by_map t) in
+    go a ∙ q.most_general.unifier ∙ sym (go b)
+
+pub unified-none : (a b : Typ) (s : TyMap) → unified a b s ≡ None → (g : Name → Typ) → IsUnifier g (put_typ (at s) a) (put_typ (at s) b) → ⊥
+unfolding unified
+unified-none a b s h g u =
+    solve-complete _ _ s _ _ (omega arith) (each-left (put_typ (at s) a) (put_typ (at s) b)) (each-right (put_typ (at s) a) (put_typ (at s) b)) h g u

@@ -1,0 +1,2 @@
+pub mod TySubst
+pub mod Unifier
