@@ -1,2 +1,3 @@
 pub mod TySubst
 pub mod Unifier
+pub mod Solved

@@ -18,10 +18,7 @@ impl TySubst {
         ensures ok { IfOk result (λ t. t ≡ put_typ (at self.now) typ.now) }
         ensures memory { IfErr result (λ w. w ≡ Memory) }
     {
-        match changed(self, alloc, typ)? {
-            None => typ.copy(),
-            Some(new) => Ok(new),
-        }
+        new_or_copy(changed(self, alloc, typ)?, typ)
     }
 }
 
@@ -57,8 +54,19 @@ fn changed_all(s: &TySubst, alloc: Global, typs: &Types) -> Mem<Option<Types>>
     }
 }
 
+/// The new type, if there is one, or a copy of the old one.
+pub(crate) fn new_or_copy(new: Option<Typ>, old: &Typ) -> Mem<Typ>
+    ensures ok { IfOk result (λ t. t ≡ unwrap_or new old.now) }
+    ensures memory { IfErr result (λ w. w ≡ Memory) }
+{
+    match new {
+        None => old.copy(),
+        Some(typ) => Ok(typ),
+    }
+}
+
 /// A constructor with new arguments, if there are any.
-fn with_args(c: &Text, args: Option<Types>) -> Mem<Option<Typ>>
+pub(crate) fn with_args(c: &Text, args: Option<Types>) -> Mem<Option<Typ>>
     ensures ok { IfOk result (λ r. (ts : Types) → unwrap_or r (Con c.now ts) ≡ Con c.now (unwrap_or args ts)) }
     ensures memory { IfErr result (λ w. w ≡ Memory) }
 {
@@ -69,7 +77,7 @@ fn with_args(c: &Text, args: Option<Types>) -> Mem<Option<Typ>>
 }
 
 /// A copy of a value, if there is one.
-fn value(found: Option<&Typ>) -> Mem<Option<Typ>>
+pub(crate) fn value(found: Option<&Typ>) -> Mem<Option<Typ>>
     ensures ok { IfOk result (λ r. r ≡ option_copied found.entry) }
     ensures memory { IfErr result (λ w. w ≡ Memory) }
 {
@@ -80,7 +88,7 @@ fn value(found: Option<&Typ>) -> Mem<Option<Typ>>
 }
 
 /// A list of types where the first or the rest may be new.
-fn with_parts(
+pub(crate) fn with_parts(
     alloc: Global,
     first: Option<Typ>,
     old_first: &Shared<Typ>,

@@ -6,9 +6,13 @@
 
 mod apply;
 mod compose;
+mod heads;
 pub mod no_unify;
+mod puts;
+pub mod solved;
 pub mod statements;
 pub mod ty_subst;
 
 pub use no_unify::NoUnify;
+pub use solved::Solved;
 pub use ty_subst::TySubst;
