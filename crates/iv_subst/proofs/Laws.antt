@@ -4,3 +4,5 @@ pub mod Solve
 pub mod Entries
 pub mod Solved
 pub mod Heads
+pub mod Pairs
+pub mod Going

@@ -8,10 +8,12 @@ mod apply;
 mod compose;
 mod heads;
 pub mod no_unify;
+mod pairs;
 mod puts;
 pub mod solved;
 pub mod statements;
 pub mod ty_subst;
+mod unify;
 
 pub use no_unify::NoUnify;
 pub use solved::Solved;

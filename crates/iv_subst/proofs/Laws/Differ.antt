@@ -10,6 +10,7 @@ use Rattle.iv_term.specs.Typ.{ty_cons, same_name}
 use Rattle.iv_term.proofs.Laws.Same.{same_name-true, same_name-same, same_text-true, same_text-same}
 use Rattle.iv_subst.specs.TySubst.{put_typ, put_typs, occurs, occurs_any}
 use Rattle.iv_subst.specs.Unifier.{Difference, nowhere, clash, variable, or_then, differ, differ_all}
+use Rattle.iv_subst.specs.Pairs.{size, size_all}
 
 ty_first : Types → Typ → Typ
 ty_first Nil d = d
@@ -250,17 +251,6 @@ mutual
   differ_all-each P (ty_cons t ts) Nil p q = tt
   differ_all-each P (ty_cons t ts) (ty_cons u us) p q =
       each-or P (differ t u) (differ_all ts us) (differ-each P t u p.0 q.0) (differ_all-each P ts us p.1 q.1)
-
--- how many nodes a type has
-unfoldable mutual
-  pub size : Typ → ℕ
-  size (Con c ts) = suc (size_all ts)
-  size (Fixed a) = 1
-  size (Schematic x) = 1
-
-  pub size_all : Types → ℕ
-  size_all Nil = 0
-  size_all (ty_cons t ts) = suc (size t + size_all ts)
 
 occurs_by : (s n m : ℕ) (a b : Bool) → (a || b) ≡ true → (a ≡ true → s ≤ n) → (b ≡ true → s ≤ m) → s ≤ suc (n + m)
 occurs_by s n m true b h k l = let q = k refl in omega arith

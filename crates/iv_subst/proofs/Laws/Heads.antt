@@ -9,7 +9,7 @@ use Rattle.iv_term.specs.Typ.{ty_cons, same_name}
 use Rattle.iv_subst.specs.TySubst.{put_typ, put_typs, occurs, occurs_any, TyMap, seek, at}
 use Rattle.iv_subst.specs.Solved.{solved, rank, AreSolved, IsHead, link}
 use Rattle.iv_subst.proofs.Laws.Put.{put-variable}
-use Rattle.iv_subst.proofs.Laws.Differ.{size, size_all}
+use Rattle.iv_subst.specs.Pairs.{size, size_all}
 use Rattle.iv_subst.proofs.Laws.Solved.{link-some, link-none, rank-some}
 
 pub typ_rank : TyMap → Typ → ℕ

@@ -3,7 +3,7 @@ use Rattle.iv_term.specs.declared.typ.Typ.TheBlock.{Schematic}
 use Rattle.iv_term.specs.Typ.{cons_is}
 use Rattle.iv_subst.specs.TySubst.{put_typ, put_typs, occurs, occurs_any}
 use Rattle.iv_subst.specs.Solved.{IsHead}
-use Rattle.iv_subst.proofs.Laws.Differ.{size, size_all}
+use Rattle.iv_subst.specs.Pairs.{size, size_all}
 use Rattle.iv_subst.proofs.Laws.Heads.{head-variable}
 use Rattle.iv_subst.proofs.heads.+is_inside.Goals as goal
 

@@ -1,6 +1,6 @@
 use Rattle.iv_subst.specs.TySubst.{put_typ, put_typs, at}
 use Rattle.iv_subst.specs.Solved.{solved}
-use Rattle.iv_subst.proofs.Laws.Differ.{size, size_all}
+use Rattle.iv_subst.specs.Pairs.{size, size_all}
 use Rattle.iv_subst.proofs.heads.+is_inside.Given as goal
 
 abbrev pub decreases-is_inside : goal.decreases-is_inside

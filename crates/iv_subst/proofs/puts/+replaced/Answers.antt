@@ -3,7 +3,7 @@ use Rattle.iv_term.specs.declared.typ.Typ.TheBlock.{Con, Schematic}
 use Rattle.iv_term.specs.Typ.{cons_is}
 use Rattle.iv_subst.specs.TySubst.{put_typ, put_typs}
 use Rattle.iv_subst.specs.Solved.{IsHead}
-use Rattle.iv_subst.proofs.Laws.Differ.{size, size_all}
+use Rattle.iv_subst.specs.Pairs.{size, size_all}
 use Rattle.iv_subst.proofs.Laws.Entries.{con-changed, parts-changed}
 use Rattle.iv_subst.proofs.Laws.Heads.{followed, followed-small, followed-con, unassigned, assigned, assigned-smaller}
 use Rattle.iv_subst.proofs.puts.+replaced.Goals as goal

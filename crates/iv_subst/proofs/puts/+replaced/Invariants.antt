@@ -1,7 +1,7 @@
 use Rattle.std.proofs.Common.{suc, ◌+◌}
 use Rattle.iv_subst.specs.TySubst.{put_typ, put_typs, at}
 use Rattle.iv_subst.specs.Solved.{solved}
-use Rattle.iv_subst.proofs.Laws.Differ.{size, size_all}
+use Rattle.iv_subst.specs.Pairs.{size, size_all}
 use Rattle.iv_subst.proofs.Laws.Heads.{followed}
 use Rattle.iv_subst.proofs.puts.+replaced.Given as goal
 
