@@ -16,5 +16,8 @@ pub mod ty_subst;
 mod unify;
 
 pub use no_unify::NoUnify;
-pub use solved::Solved;
+pub use solved::{Solved, unify_types};
 pub use ty_subst::TySubst;
+
+#[cfg(test)]
+mod tests;

@@ -52,3 +52,18 @@ fn replaced_all(es: &TySubst, alloc: Global, typs: &Types) -> Mem<Option<Types>>
         }
     }
 }
+
+/// All assignments, each with the others put in.
+pub(crate) fn spread(es: &TySubst, alloc: Global) -> Mem<TySubst>
+    requires { AreSolved es.now }
+    ensures ok { IfOk result (λ s. s ≡ solved es.now) }
+    ensures memory { IfErr result (λ w. w ≡ Memory) }
+{
+    let mut all = TySubst::new(alloc);
+    for i in 0..es.len() {
+        let (name, typ) = es.entry(i);
+        let new = replaced(es, alloc, typ)?;
+        all.add(name.copy()?, new_or_copy(new, typ)?)?;
+    }
+    Ok(all)
+}

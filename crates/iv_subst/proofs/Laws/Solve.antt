@@ -6,9 +6,12 @@ use Rattle.iv_term.specs.declared.typ.Types.{Types}
 use Rattle.iv_term.specs.declared.typ.Typ.TheBlock.{Con, Fixed, Schematic, Nil}
 use Rattle.iv_term.specs.Typ.{ty_cons, same_name}
 use Rattle.iv_term.proofs.Laws.Same.{same_name-true, same_name-same}
-use Rattle.iv_subst.specs.TySubst.{put_typ, then_put, single, occurs, occurs_any, TyMap, at, assign}
-use Rattle.iv_subst.specs.Unifier.{IsUnifier, IsSolved, Difference, nowhere, clash, variable, differ, variables, variables_all, turn, stuck, solve, unified}
-use Rattle.iv_subst.proofs.Laws.Put.{put-variable, put-none, put-put, put-same, single-absorbed, single-instance, same_name-turned, or-left, or-right, at-assign}
+use Rattle.std.specs.Prelude.{Result, Ok, Err, OnOk, IfErr}
+use Rattle.iv_subst.specs.declared.no_unify.NoUnify.{NoUnify}
+use Rattle.iv_subst.specs.declared.no_unify.NoUnify.TheVariants.{Clash}
+use Rattle.iv_subst.specs.TySubst.{put_typ, then_put, single, occurs, occurs_any, TyMap, at, assign, composed}
+use Rattle.iv_subst.specs.Unifier.{IsUnifier, IsMostGeneral, IsSolved, followed, unified_under, Difference, nowhere, clash, variable, differ, variables, variables_all, turn, stuck, solve, unified}
+use Rattle.iv_subst.proofs.Laws.Put.{put-variable, put-none, put-put, put-same, single-absorbed, single-instance, same_name-turned, or-left, or-right, at-assign, at-composed}
 use Rattle.iv_subst.proofs.Laws.Differ.{differ-nowhere, differ-needs, Needs, differ-apart, Apart, Each, EachOf, Each-put, EachIn, differ-each, occurs-apart}
 
 -- soundness and generality
@@ -264,3 +267,53 @@ pub unified-none : (a b : Typ) (s : TyMap) → unified a b s ≡ None → (g : N
 unfolding unified
 unified-none a b s h g u =
     solve-complete _ _ s _ _ (omega arith) (each-left (put_typ (at s) a) (put_typ (at s) b)) (each-right (put_typ (at s) a) (put_typ (at s) b)) h g u
+
+-- the same for any map: what is found from nothing, put behind it
+
+nothing-at : (t : Typ) → put_typ (at []) t ≡ t
+unfolding at
+nothing-at t = put-none t
+
+pub under-solved : (a b : Typ) (s r : TyMap) → unified (put_typ (at s) a) (put_typ (at s) b) [] ≡ Some r
+    → IsSolved s (put_typ (at s) a) (put_typ (at s) b) (composed s r)
+unfolding at
+under-solved a b s r h =
+    let left = put_typ (at s) a in
+    let right = put_typ (at s) b in
+    let q = unified-solved left right [] r h in
+    let by : (y : Name) → at r y ≡ q.by_map y = λ y. q.after y ∙ put-variable q.by_map y in
+    let m : IsMostGeneral q.by_map left right =
+        subst (λ z. IsMostGeneral q.by_map z right) (nothing-at left) (subst (IsMostGeneral q.by_map (put_typ (at []) left)) (nothing-at right) q.most_general) in
+    record { by_map = q.by_map; after = λ y. at-composed s r y ∙ put-same (at r) q.by_map by (at s y); most_general = m }
+
+pub under-none : (a b : Typ) → unified a b [] ≡ None → (g : Name → Typ) → IsUnifier g a b → ⊥
+under-none a b h g u =
+    unified-none a b [] h g (ap (put_typ g) (nothing-at a) ∙ u ∙ ap (put_typ g) (sym (nothing-at b)))
+
+-- what the laws say of a call's result
+
+pub ok-equal : {E : Type 0} (r : Result (Unit {0}) E) (a b : Typ) (s s2 : TyMap) → OnOk r (unified a b s ≡ Some s2) → OnOk r (put_typ (at s2) a ≡ put_typ (at s2) b)
+ok-equal (Ok u) a b s s2 h = solved-equal a b s s2 (unified-solved a b s s2 h)
+ok-equal (Err e) a b s s2 h = tt
+
+pub ok-solved : {E : Type 0} (r : Result (Unit {0}) E) (a b : Typ) (s s2 : TyMap) → OnOk r (unified a b s ≡ Some s2)
+    → OnOk r (IsSolved s (put_typ (at s) a) (put_typ (at s) b) s2)
+ok-solved (Ok u) a b s s2 h = unified-solved a b s s2 h
+ok-solved (Err e) a b s s2 h = tt
+
+pub clash-none : {T : Type 0} (r : Result T NoUnify) (a b : Typ) (s : TyMap) → IfErr r (λ e. e ≡ Clash → unified a b s ≡ None)
+    → IfErr r (λ e. e ≡ Clash → (g : Name → Typ) → IsUnifier g (put_typ (at s) a) (put_typ (at s) b) → ⊥)
+clash-none (Ok u) a b s h = tt
+clash-none (Err e) a b s h = λ z. unified-none a b s (h z)
+
+pub start-is : (a b left right : Typ) (s : TyMap) → left ≡ a → right ≡ b → s ≡ [] → (o : Option TyMap) → unified left right s ≡ o → unified a b [] ≡ o
+start-is a b left right s l r z o h = (λ i. unified (sym l i) (sym r i) (sym z i)) ∙ h
+
+pub under-ok : (a b : Typ) (s now both : TyMap) → unified (put_typ (at s) a) (put_typ (at s) b) [] ≡ Some now → both ≡ composed s now
+    → unified_under a b s ≡ Some both
+unfolding followed
+under-ok a b s now both h e = ap (followed s) h ∙ ap Some (sym e)
+
+pub under-clash : (a b : Typ) (s : TyMap) → unified (put_typ (at s) a) (put_typ (at s) b) [] ≡ None → unified_under a b s ≡ None
+unfolding followed
+under-clash a b s h = ap (followed s) h
