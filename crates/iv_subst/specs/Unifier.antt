@@ -1,12 +1,12 @@
 -- Unification of types (Robinson 1965; most general unifiers as in Martelli and Montanari 1982).
-use Rattle.std.specs.Prelude.{◌≡◌, ℕ, zero, suc, if◌then◌else◌, List, [], ◌∷◌, ◌++◌, length, Option, Some, None}
+use Rattle.std.specs.Prelude.{false, ◌≡◌, ℕ, zero, suc, if◌then◌else◌, List, [], ◌∷◌, ◌++◌, length, Option, Some, None}
 use Rattle.std.specs.Str.{bytes_eq}
 use Rattle.iv_term.specs.declared.name.Name.{Name}
 use Rattle.iv_term.specs.declared.typ.Typ.{Typ}
 use Rattle.iv_term.specs.declared.typ.Types.{Types}
 use Rattle.iv_term.specs.declared.typ.Typ.TheBlock.{Con, Fixed, Schematic, Nil}
 use Rattle.iv_term.specs.Typ.{ty_cons, same_name}
-use Rattle.iv_subst.specs.TySubst.{put_typ, single, occurs, TyMap, at, composed, assign}
+use Rattle.iv_subst.specs.TySubst.{put_typ, single, occurs, TyMap, at, composed, assign, IsIdempotent}
 
 -- f makes both types equal
 abbrev pub IsUnifier : (Name → Typ) → Typ → Typ → Type 0
@@ -16,12 +16,16 @@ IsUnifier f a b = put_typ f a ≡ put_typ f b
 abbrev pub IsMoreGeneral : (Name → Typ) → (Name → Typ) → Type 0
 IsMoreGeneral f g = (h : Name → Typ) × ((x : Name) → g x ≡ put_typ h (f x))
 
--- an idempotent unifier that is more general than each; a unifier after it changes nothing but by itself
+-- a unifier that is more general than each, idempotent, and of variables of both types alone
 pub record IsMostGeneral (f : Name → Typ) (a b : Typ) : Type 0 where
   pub unifier : IsUnifier f a b
   pub general : (g : Name → Typ) → IsUnifier g a b → IsMoreGeneral f g
+  -- each unifier is f and then that unifier itself
   pub absorbed : (g : Name → Typ) → IsUnifier g a b → (x : Name) → put_typ g (f x) ≡ g x
-  pub idempotent : (x : Name) → put_typ f (f x) ≡ f x
+  pub idempotent : IsIdempotent f
+  -- a variable of neither type stays, and stands in what is put for no other
+  pub stays : (y : Name) → occurs y a ≡ false → occurs y b ≡ false → f y ≡ Schematic y
+  pub no_new : (y : Name) → occurs y a ≡ false → occurs y b ≡ false → (x : Name) → same_name y x ≡ false → occurs y (f x) ≡ false
 
 -- r is s and then a most general unifier of two types
 pub record IsSolved (s : TyMap) (a b : Typ) (r : TyMap) : Type 0 where

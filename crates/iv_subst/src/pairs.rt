@@ -44,7 +44,10 @@ pub(crate) fn pair(alloc: Global, a: &Typ, b: &Typ) -> Mem<Vec<(Types, Types)>>
 
 /// Works off the pairs up to the first variable that has to be assigned, and gives it with its type, or `None` at the
 /// end. `Clash` where two types come first that no substitution makes equal.
-pub(crate) fn next(es: &TySubst, pairs: &mut Vec<(Types, Types)>) -> Result<Option<(Name, Typ)>, NoUnify>
+pub(crate) fn next(
+    es: &TySubst,
+    pairs: &mut Vec<(Types, Types)>,
+) -> Result<Option<(Name, Typ)>, NoUnify>
     requires { AreSolved es.now }
     ensures step { IfOk result (λ r. IsStep es.now pairs.old.items pairs.new.items r) }
     ensures end { IfOk result (λ r. r ≡ None → pairs.new.items ≡ []) }
@@ -68,13 +71,9 @@ fn open(
 ) -> Result<Option<(Name, Typ)>, NoUnify>
     requires { AreSolved es.now }
     ensures step { IfOk result (λ r. IsStep es.now (pairs.old.items ++ (left.now, right.now) ∷ []) pairs.new.items r) }
-    ensures lighter {
-        OnOk result (weight (at (solved es.now)) pairs.new.items
-            < weight (at (solved es.now)) (pairs.old.items ++ (left.now, right.now) ∷ []))
-    }
-    ensures clash {
-        IfErr result (λ e. e ≡ Clash → pairs_differ (at (solved es.now)) (pairs.old.items ++ (left.now, right.now) ∷ []) ≡ clash)
-    }
+    ensures lighter { OnOk result (weight (at (solved es.now)) pairs.new.items
+        < weight (at (solved es.now)) (pairs.old.items ++ (left.now, right.now) ∷ [])) }
+    ensures clash { IfErr result (λ e. e ≡ Clash → pairs_differ (at (solved es.now)) (pairs.old.items ++ (left.now, right.now) ∷ []) ≡ clash) }
 {
     match left {
         Types::Nil => match right {
@@ -98,18 +97,12 @@ fn open_both(
     us: &Types,
 ) -> Result<Option<(Name, Typ)>, NoUnify>
     requires { AreSolved es.now }
-    ensures step {
-        IfOk result (λ r. IsStep es.now
-            (pairs.old.items ++ (ty_cons t.now ts.now, ty_cons u.now us.now) ∷ []) pairs.new.items r)
-    }
-    ensures lighter {
-        OnOk result (weight (at (solved es.now)) pairs.new.items
-            < weight (at (solved es.now)) (pairs.old.items ++ (ty_cons t.now ts.now, ty_cons u.now us.now) ∷ []))
-    }
-    ensures clash {
-        IfErr result (λ e. e ≡ Clash → pairs_differ (at (solved es.now))
-            (pairs.old.items ++ (ty_cons t.now ts.now, ty_cons u.now us.now) ∷ []) ≡ clash)
-    }
+    ensures step { IfOk result (λ r. IsStep es.now
+        (pairs.old.items ++ (ty_cons t.now ts.now, ty_cons u.now us.now) ∷ []) pairs.new.items r) }
+    ensures lighter { OnOk result (weight (at (solved es.now)) pairs.new.items
+        < weight (at (solved es.now)) (pairs.old.items ++ (ty_cons t.now ts.now, ty_cons u.now us.now) ∷ [])) }
+    ensures clash { IfErr result (λ e. e ≡ Clash → pairs_differ (at (solved es.now))
+        (pairs.old.items ++ (ty_cons t.now ts.now, ty_cons u.now us.now) ∷ []) ≡ clash) }
 {
     push(pairs, ts, us)?;
     let left = head(es, t);

@@ -98,14 +98,10 @@ impl Solved {
     pub fn unify(&mut self, alloc: Global, a: &Typ, b: &Typ) -> Result<(), NoUnify>
         ensures ok { OnOk result (unified a.now b.now self.old ≡ Some self.new) }
         ensures equal { OnOk result (put_typ (at self.new) a.now ≡ put_typ (at self.new) b.now) }
-        ensures most_general {
-            OnOk result (IsSolved self.old (put_typ (at self.old) a.now) (put_typ (at self.old) b.now) self.new)
-        }
+        ensures most_general { OnOk result (IsSolved self.old (put_typ (at self.old) a.now) (put_typ (at self.old) b.now) self.new) }
         ensures clash { IfErr result (λ e. e ≡ Clash → unified a.now b.now self.old ≡ None) }
-        ensures no_unifier {
-            IfErr result (λ e. e ≡ Clash → (g : Name → Typ)
-                → IsUnifier g (put_typ (at self.old) a.now) (put_typ (at self.old) b.now) → ⊥)
-        }
+        ensures no_unifier { IfErr result (λ e. e ≡ Clash → (g : Name → Typ)
+            → IsUnifier g (put_typ (at self.old) a.now) (put_typ (at self.old) b.now) → ⊥) }
     {
         unify(&mut self.entries, alloc, a, b)
     }
@@ -117,14 +113,10 @@ impl Solved {
 pub fn unify_types(alloc: Global, a: &Typ, b: &Typ, s: &TySubst) -> Result<TySubst, NoUnify>
     ensures ok { IfOk result (λ r. unified_under a.now b.now s.now ≡ Some r) }
     ensures equal { IfOk result (λ r. put_typ (at r) a.now ≡ put_typ (at r) b.now) }
-    ensures most_general {
-        IfOk result (λ r. IsSolved s.now (put_typ (at s.now) a.now) (put_typ (at s.now) b.now) r)
-    }
+    ensures most_general { IfOk result (λ r. IsSolved s.now (put_typ (at s.now) a.now) (put_typ (at s.now) b.now) r) }
     ensures clash { IfErr result (λ e. e ≡ Clash → unified_under a.now b.now s.now ≡ None) }
-    ensures no_unifier {
-        IfErr result (λ e. e ≡ Clash → (g : Name → Typ)
-            → IsUnifier g (put_typ (at s.now) a.now) (put_typ (at s.now) b.now) → ⊥)
-    }
+    ensures no_unifier { IfErr result (λ e. e ≡ Clash → (g : Name → Typ)
+        → IsUnifier g (put_typ (at s.now) a.now) (put_typ (at s.now) b.now) → ⊥) }
 {
     let left = s.apply_typ(alloc, a)?;
     let right = s.apply_typ(alloc, b)?;

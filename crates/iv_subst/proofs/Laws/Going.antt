@@ -1,12 +1,11 @@
 -- What unification keeps from turn to turn.
-use Rattle.std.proofs.Common.{◌≡◌, ℕ, Bool, true, false, refl, sym, ◌∙◌, ap, subst, List, [], ◌∷◌, ◌++◌, Option, None, Some, if◌then◌else◌, ◌≤◌, ◌<◌, ◌+◌, ◌-◌, zero, suc, arith, length}
+use Rattle.std.proofs.Common.{◌≡◌, ℕ, true, false, refl, sym, ◌∙◌, ap, subst, List, [], ◌∷◌, ◌++◌, None, Some, ◌≤◌, ◌<◌, ◌+◌, ◌-◌, zero, suc, arith, length}
 use Rattle.iv_term.specs.declared.name.Name.{Name}
 use Rattle.iv_term.specs.declared.typ.Typ.{Typ}
-use Rattle.iv_term.specs.declared.typ.Types.{Types}
-use Rattle.iv_term.specs.declared.typ.Typ.TheBlock.{Con, Fixed, Schematic, Nil}
+use Rattle.iv_term.specs.declared.typ.Typ.TheBlock.{Schematic, Nil}
 use Rattle.iv_term.specs.Typ.{ty_cons}
 use Rattle.iv_subst.specs.TySubst.{put_typ, put_typs, then_put, single, occurs, TyMap, at, assign}
-use Rattle.iv_subst.specs.Unifier.{Difference, nowhere, clash, variable, differ, differ_all, variables, turn, solve, unified}
+use Rattle.iv_subst.specs.Unifier.{nowhere, clash, variable, differ, differ_all, variables, turn, solve, unified}
 use Rattle.iv_subst.specs.Solved.{solved, AreSolved}
 use Rattle.iv_subst.specs.Pairs.{Pairs, pairs_differ, IsStep}
 use Rattle.iv_subst.proofs.Laws.Put.{put-put, single-absent, single-here, put-assign, then-assign}
@@ -61,7 +60,7 @@ going-start es a b k = record {
   enough = omega arith;
   counted = refl;
   same = refl;
-  differs = λ g. sym (or_then-nowhere (differ (put_typ (then_put (at (solved es)) g) a) (put_typ (then_put (at (solved es)) g) b)))
+  differs = λ g. sym (or_then-nowhere (differ (put_typ (then_put (at (solved es)) g) a) (put_typ (then_put (at (solved es)) g) b)));
 }
 
 going-now : (es0 es : TyMap) (a b : Typ) (ps : Pairs) → Going es0 es a b ps
@@ -72,7 +71,7 @@ pub going-end : (es0 es : TyMap) (a b : Typ) (ps qs : Pairs) → Going es0 es a 
 unfolding pairs_differ
 going-end es0 es a b ps qs k l e =
     let d : differ (put_typ (at (solved es)) a) (put_typ (at (solved es)) b) ≡ nowhere =
-        going-now es0 es a b ps k ∙ step-now es ps qs l ∙ ap (pairs_differ (at (solved es))) e in
+    going-now es0 es a b ps k ∙ step-now es ps qs l ∙ ap (pairs_differ (at (solved es))) e in
     k.same ∙ solve-nowhere k.turns (solved es) (put_typ (at (solved es)) a) (put_typ (at (solved es)) b) d
 
 pub going-clash : (es0 es : TyMap) (a b : Typ) (ps : Pairs) → Going es0 es a b ps → pairs_differ (at (solved es)) ps ≡ clash → unified a b (solved es0) ≡ None
@@ -83,7 +82,7 @@ pub going-inside : (es0 es : TyMap) (a b : Typ) (ps qs : Pairs) (x : Name) (t : 
     → occurs x (put_typ (at (solved es)) t) ≡ true → unified a b (solved es0) ≡ None
 going-inside es0 es a b ps qs x t k l o =
     k.same ∙ solve-inside k.turns (solved es) (put_typ (at (solved es)) a) (put_typ (at (solved es)) b) x (put_typ (at (solved es)) t)
-        (going-now es0 es a b ps k ∙ l.differs.0) o
+    (going-now es0 es a b ps k ∙ l.differs.0) o
 
 length-push : (es : TyMap) (e : Name × Typ) → length (es ++ e ∷ []) ≡ suc (length es)
 length-push [] e = refl
@@ -93,16 +92,16 @@ length-push (d ∷ es) e = ap suc (length-push es e)
 on-differs : (es0 es : TyMap) (a b : Typ) (ps qs : Pairs) (x : Name) (t : Typ) (k : Going es0 es a b ps) → IsStep es ps qs (Some (x, t))
     → occurs x (put_typ (at (solved es)) t) ≡ false → (g : Name → Typ)
     → differ (put_typ (then_put (at (solved (es ++ (x, t) ∷ []))) g) a) (put_typ (then_put (at (solved (es ++ (x, t) ∷ []))) g) b)
-        ≡ pairs_differ (then_put (at (solved (es ++ (x, t) ∷ []))) g) qs
+    ≡ pairs_differ (then_put (at (solved (es ++ (x, t) ∷ []))) g) qs
 on-differs es0 es a b ps qs x t k l o g =
     let s = solved es in
     let u = put_typ (at s) t in
     let h = then_put (single x u) g in
     let e : solved (es ++ (x, t) ∷ []) ≡ assign s x u = grown-push [] es x t in
     let meets : put_typ g (single x u x) ≡ put_typ h u =
-        ap (put_typ g) (single-here x u) ∙ ap (put_typ g) (sym (single-absent x u u o)) ∙ put-put (single x u) g u in
+    ap (put_typ g) (single-here x u) ∙ ap (put_typ g) (sym (single-absent x u u o)) ∙ put-put (single x u) g u in
     let f : then_put (at s) h ≡ then_put (at (solved (es ++ (x, t) ∷ []))) g =
-        λ i y. sym (ap (λ m. then_put (at m) g y) e ∙ then-assign s x u g y) i in
+    λ i y. sym (ap (λ m. then_put (at m) g y) e ∙ then-assign s x u g y) i in
     subst (λ f. differ (put_typ f a) (put_typ f b) ≡ pairs_differ f qs) f (k.differs h ∙ l.leaves h meets)
 
 -- one more assignment, where turns are left
@@ -116,11 +115,11 @@ on-by es0 es a b ps qs x t k l o i j (suc n) z =
     let s2 = solved (es ++ (x, t) ∷ []) in
     let e : s2 ≡ assign s x u = grown-push [] es x t in
     let pass : (c : Typ) → put_typ (single x u) (put_typ (at s) c) ≡ put_typ (at s2) c =
-        λ c. sym (put-assign s x u c) ∙ ap (λ m. put_typ (at m) c) (sym e) in
+    λ c. sym (put-assign s x u c) ∙ ap (λ m. put_typ (at m) c) (sym e) in
     let d : differ (put_typ (at s) a) (put_typ (at s) b) ≡ variable x u = going-now es0 es a b ps k ∙ l.differs.0 in
     let same : solve k.turns s (put_typ (at s) a) (put_typ (at s) b) ≡ solve n s2 (put_typ (at s2) a) (put_typ (at s2) b) =
-        ap (λ m. solve m s (put_typ (at s) a) (put_typ (at s) b)) z ∙ solve-assign n s (put_typ (at s) a) (put_typ (at s) b) x u d o
-        ∙ (λ i. solve n (sym e i) (pass a i) (pass b i)) in
+    ap (λ m. solve m s (put_typ (at s) a) (put_typ (at s) b)) z ∙ solve-assign n s (put_typ (at s) a) (put_typ (at s) b) x u d o
+    ∙ (λ i. solve n (sym e i) (pass a i) (pass b i)) in
     let shorter = without-shorter x k.names i in
     let longer = length-push es (x, t) in
     let counted = k.counted in
@@ -136,7 +135,7 @@ on-by es0 es a b ps qs x t k l o i j (suc n) z =
       enough = fewer;
       counted = count;
       same = k.same ∙ same;
-      differs = λ g. on-differs es0 es a b ps qs x t k l o g
+      differs = λ g. on-differs es0 es a b ps qs x t k l o g;
     }
 
 pub going-on : (es0 es : TyMap) (a b : Typ) (ps qs : Pairs) (x : Name) (t : Typ) → Going es0 es a b ps → IsStep es ps qs (Some (x, t))
@@ -144,7 +143,7 @@ pub going-on : (es0 es : TyMap) (a b : Typ) (ps qs : Pairs) (x : Name) (t : Typ)
 going-on es0 es a b ps qs x t k l o =
     let d : differ (put_typ (at (solved es)) a) (put_typ (at (solved es)) b) ≡ variable x (put_typ (at (solved es)) t) = going-now es0 es a b ps k ∙ l.differs.0 in
     let over : EachIn (In k.names) (variable x (put_typ (at (solved es)) t)) =
-        subst (EachIn (In k.names)) d (differ-each (In k.names) (put_typ (at (solved es)) a) (put_typ (at (solved es)) b) k.left_over k.right_over) in
+    subst (EachIn (In k.names)) d (differ-each (In k.names) (put_typ (at (solved es)) a) (put_typ (at (solved es)) b) k.left_over k.right_over) in
     on-by es0 es a b ps qs x t k l o over.0 over.1 k.turns refl
 
 -- turns are counted down

@@ -1,15 +1,13 @@
 -- Following variables to what they are assigned.
-use Rattle.std.proofs.Common.{◌≡◌, ℕ, Bool, true, false, refl, sym, ◌∙◌, ap, subst, List, [], ◌∷◌, ◌++◌, Option, None, Some, if◌then◌else◌, ◌≤◌, ◌<◌, ◌+◌, zero, suc, arith, length, Bor}
-use Rattle.std.specs.Option.{option_copied}
+use Rattle.std.proofs.Common.{◌≡◌, ℕ, refl, sym, ◌∙◌, ap, List, Option, None, Some, ◌≤◌, ◌<◌, ◌+◌, arith}
 use Rattle.iv_term.specs.declared.name.Name.{Name}
 use Rattle.iv_term.specs.declared.typ.Typ.{Typ}
 use Rattle.iv_term.specs.declared.typ.Types.{Types}
-use Rattle.iv_term.specs.declared.typ.Typ.TheBlock.{Con, Fixed, Schematic, Nil}
-use Rattle.iv_term.specs.Typ.{ty_cons, same_name}
-use Rattle.iv_subst.specs.TySubst.{put_typ, put_typs, occurs, occurs_any, TyMap, seek, at}
+use Rattle.iv_term.specs.declared.typ.Typ.TheBlock.{Con, Fixed, Schematic}
+use Rattle.iv_subst.specs.TySubst.{put_typ, TyMap, seek, at}
 use Rattle.iv_subst.specs.Solved.{solved, rank, AreSolved, IsHead, link}
 use Rattle.iv_subst.proofs.Laws.Put.{put-variable}
-use Rattle.iv_subst.specs.Pairs.{size, size_all}
+use Rattle.iv_subst.specs.Pairs.{size}
 use Rattle.iv_subst.proofs.Laws.Solved.{link-some, link-none, rank-some}
 
 pub typ_rank : TyMap → Typ → ℕ
@@ -86,7 +84,7 @@ assigned es k x value top h e = e ∙ sym (put-variable (at (solved es)) x ∙ l
 pub assigned-smaller : (es : TyMap) → AreSolved es → (x : Name) (value top : Typ) → Some value ≡ seek es x
     → put_typ (at (solved es)) top ≡ put_typ (at (solved es)) value → IsHead es top
     → size (put_typ (at (solved es)) top) + size (put_typ (at (solved es)) top) + followed es top
-        < size (put_typ (at (solved es)) (Schematic x)) + size (put_typ (at (solved es)) (Schematic x)) + followed es (Schematic x)
+    < size (put_typ (at (solved es)) (Schematic x)) + size (put_typ (at (solved es)) (Schematic x)) + followed es (Schematic x)
 assigned-smaller es k x value top h e p =
     let s = ap size (assigned es k x value top h e) in
     let a = followed-head es top p in

@@ -1,5 +1,5 @@
 -- Laws of the pairs that are left, and of one step on them.
-use Rattle.std.proofs.Common.{◌≡◌, ℕ, Bool, true, false, refl, sym, ◌∙◌, ap, subst, List, [], ◌∷◌, ◌++◌, Option, None, Some, if◌then◌else◌, ◌≤◌, ◌<◌, ◌+◌, zero, suc, arith, IfOk, IfErr, OnOk, Ok, Err}
+use Rattle.std.proofs.Common.{◌≡◌, ℕ, Bool, true, false, refl, sym, ◌∙◌, ap, subst, List, [], ◌∷◌, ◌++◌, Option, None, Some, if◌then◌else◌, ◌<◌, ◌+◌, suc, arith, IfOk, IfErr, OnOk, Ok, Err}
 use Rattle.std.specs.Prelude.{Result}
 use Rattle.iv_subst.specs.declared.no_unify.NoUnify.{NoUnify}
 use Rattle.iv_subst.specs.declared.no_unify.NoUnify.TheVariants.{Clash as no_unifier}
@@ -13,12 +13,11 @@ use Rattle.iv_term.proofs.Laws.Same.{same_name-true}
 use Rattle.iv_subst.specs.declared.pairs.Step.{Step}
 use Rattle.iv_subst.specs.declared.pairs.Step.TheVariants.{Done, Open, Clash, Assign}
 use Rattle.iv_subst.specs.TySubst.{put_typ, put_typs, then_put, TyMap, seek, at}
-use Rattle.iv_subst.specs.Unifier.{Difference, nowhere, clash, variable, or_then, differ, differ_all}
+use Rattle.iv_subst.specs.Unifier.{nowhere, clash, variable, or_then, differ, differ_all}
 use Rattle.iv_subst.specs.Solved.{solved, AreSolved, IsHead}
-use Rattle.iv_subst.specs.Pairs.{size, size_all, Pairs, pairs_differ, Meets, IsFound, IsStep, weight, step_of, opened, assigned_by}
-use Rattle.iv_subst.proofs.Laws.Put.{put-none, put-put, put-variable, put_all-same}
+use Rattle.iv_subst.specs.Pairs.{size, size_all, Pairs, pairs_differ, IsStep, weight, step_of, opened, assigned_by}
+use Rattle.iv_subst.proofs.Laws.Put.{put-none, put-put, put-variable}
 use Rattle.iv_subst.proofs.Laws.Differ.{or_then-nowhere, or_then-assoc, differ-same}
-use Rattle.iv_subst.proofs.Laws.Solved.{link-none}
 use Rattle.iv_subst.proofs.Laws.Heads.{head-variable}
 
 pub pairs-push : (f : Name → Typ) (ps : Pairs) (p : Types × Types)
@@ -55,13 +54,13 @@ weight-cons f ps t u ts us =
 abbrev pub StepOf : TyMap → Typ → Typ → Step → Type 0
 StepOf es t u Done = (g : Name → Typ) → differ (put_typ (then_put (at (solved es)) g) t) (put_typ (then_put (at (solved es)) g) u) ≡ nowhere
 StepOf es t u (Open ts us) = ((g : Name → Typ) → differ (put_typ (then_put (at (solved es)) g) t) (put_typ (then_put (at (solved es)) g) u)
-        ≡ differ_all (put_typs (then_put (at (solved es)) g) ts) (put_typs (then_put (at (solved es)) g) us))
+    ≡ differ_all (put_typs (then_put (at (solved es)) g) ts) (put_typs (then_put (at (solved es)) g) us))
     × (suc (size_all (put_typs (at (solved es)) ts)) ≡ size (put_typ (at (solved es)) t))
 StepOf es t u Clash = differ (put_typ (at (solved es)) t) (put_typ (at (solved es)) u) ≡ clash
 StepOf es t u (Assign x v) = (differ (put_typ (at (solved es)) t) (put_typ (at (solved es)) u) ≡ variable x (put_typ (at (solved es)) v))
     × (seek es x ≡ None) × IsHead es v
     × ((g : Name → Typ) → g x ≡ put_typ g (put_typ (at (solved es)) v)
-        → differ (put_typ (then_put (at (solved es)) g) t) (put_typ (then_put (at (solved es)) g) u) ≡ nowhere)
+    → differ (put_typ (then_put (at (solved es)) g) t) (put_typ (then_put (at (solved es)) g) u) ≡ nowhere)
 
 differ-equal : (a b : Typ) → a ≡ b → differ a b ≡ nowhere
 differ-equal a b e = ap (λ z. differ z b) e ∙ differ-same b
@@ -125,7 +124,7 @@ step-means es k (Schematic x) (Schematic y) h q = two_variables es k x y h q (sa
 -- the same types seen as far as their heads
 heads-differ : (es : TyMap) (t t' u u' : Typ) → put_typ (at (solved es)) t' ≡ put_typ (at (solved es)) t → put_typ (at (solved es)) u' ≡ put_typ (at (solved es)) u
     → (g : Name → Typ) → differ (put_typ (then_put (at (solved es)) g) t) (put_typ (then_put (at (solved es)) g) u)
-        ≡ differ (put_typ (then_put (at (solved es)) g) t') (put_typ (then_put (at (solved es)) g) u')
+    ≡ differ (put_typ (then_put (at (solved es)) g) t') (put_typ (then_put (at (solved es)) g) u')
 heads-differ es t t' u u' e f g =
     let s = at (solved es) in
     let a : put_typ (then_put s g) t ≡ put_typ (then_put s g) t' = sym (put-put s g t) ∙ ap (put_typ g) (sym e) ∙ put-put s g t' in
@@ -147,7 +146,7 @@ step-by es ps t t' u u' ts us e f Done k n =
       record {
         differs = tt;
         leaves = λ g m. pairs-cons (then_put (at (solved es)) g) ps t u ts us
-            ∙ ap (λ d. or_then d (pairs_differ (then_put (at (solved es)) g) (ps ++ (ts, us) ∷ []))) (heads-differ es t t' u u' e f g ∙ k g)
+            ∙ ap (λ d. or_then d (pairs_differ (then_put (at (solved es)) g) (ps ++ (ts, us) ∷ []))) (heads-differ es t t' u u' e f g ∙ k g);
       },
       omega arith,
     )
@@ -159,7 +158,7 @@ step-by es ps t t' u u' ts us e f (Open xs ys) k n =
         differs = tt;
         leaves = λ g m. pairs-cons (then_put (at (solved es)) g) ps t u ts us
             ∙ ap (λ d. or_then d (pairs_differ (then_put (at (solved es)) g) (ps ++ (ts, us) ∷ []))) (heads-differ es t t' u u' e f g ∙ k.0 g)
-            ∙ sym (pairs-push (then_put (at (solved es)) g) (ps ++ (ts, us) ∷ []) (xs, ys))
+            ∙ sym (pairs-push (then_put (at (solved es)) g) (ps ++ (ts, us) ∷ []) (xs, ys));
       },
       omega arith,
     )
@@ -174,7 +173,7 @@ step-by es ps t t' u u' ts us e f (Assign x v) k n =
           k.2,
         );
         leaves = λ g m. pairs-cons (then_put s g) ps t u ts us
-            ∙ ap (λ d. or_then d (pairs_differ (then_put s g) (ps ++ (ts, us) ∷ []))) (heads-differ es t t' u u' e f g ∙ k.3 g m)
+            ∙ ap (λ d. or_then d (pairs_differ (then_put s g) (ps ++ (ts, us) ∷ []))) (heads-differ es t t' u u' e f g ∙ k.3 g m);
       },
       omega arith,
     )
@@ -223,7 +222,7 @@ pub steps : (es : TyMap) (ps qs rs : Pairs) (o : Option (Name × Typ)) → IsSte
 steps es ps qs rs None k l = record { differs = tt; leaves = λ g m. k.leaves g tt ∙ l.leaves g m }
 steps es ps qs rs (Some p) k l = record {
   differs = (step-now es ps qs k ∙ l.differs.0, l.differs.1, l.differs.2);
-  leaves = λ g m. k.leaves g tt ∙ l.leaves g m
+  leaves = λ g m. k.leaves g tt ∙ l.leaves g m;
 }
 
 -- a variable against no variable

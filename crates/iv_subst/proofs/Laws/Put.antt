@@ -173,3 +173,34 @@ idempotent-assign s x t k free own out y =
     let f = single x t in
     ap (put_typ (at (assign s x t))) (at-assign s x t y) ∙ put-assign s x t (put_typ f (at s y))
     ∙ pass-single s x t free own out (at s y) ∙ ap (put_typ f) (k y) ∙ sym (at-assign s x t y)
+
+-- what has no variable of a map stays
+
+none-by : (e : Name × Typ) (y : Name) (h : Bool) (a : Typ) (v : Bool) → (if v then true else h) ≡ false → (h ≡ false → a ≡ Schematic y)
+    → (if v then e.1 else a) ≡ Schematic y
+none-by e y h a true k q = absurd (let bad : true ≡ false = k in cc)
+none-by e y h a false k q = q k
+
+pub at-none : (s : TyMap) (y : Name) → has s y ≡ false → at s y ≡ Schematic y
+unfolding at has
+at-none [] y h = refl
+at-none (e ∷ s) y h = none-by e y (has s y) (at s y) (same_name y e.0) h (at-none s y)
+
+kept_by : (s : TyMap) (y : Name) (v : Bool) → has s y ≡ v → (v ≡ true → same_name y y ≡ false) → at s y ≡ Schematic y
+kept_by s y true h k = absurd (let bad : true ≡ false = sym (same_name-same y) ∙ k refl in cc)
+kept_by s y false h k = at-none s y h
+
+mutual
+  unfolding put_typ put_typs occurs occurs_any
+
+  pub put-kept : (s : TyMap) (t : Typ) → ((y : Name) → has s y ≡ true → occurs y t ≡ false) → put_typ (at s) t ≡ t
+  put-kept s (Con c ts) k = ap (Con c) (put_all-kept s ts k)
+  put-kept s (Fixed a) k = refl
+  put-kept s (Schematic y) k = kept_by s y (has s y) refl (k y)
+
+  pub put_all-kept : (s : TyMap) (ts : Types) → ((y : Name) → has s y ≡ true → occurs_any y ts ≡ false) → put_typs (at s) ts ≡ ts
+  put_all-kept s Nil k = refl
+  put_all-kept s (ty_cons t ts) k =
+      let e = put-kept s t (λ y h. or-left (occurs y t) (occurs_any y ts) (k y h)) in
+      let f = put_all-kept s ts (λ y h. or-right (occurs y t) (occurs_any y ts) (k y h)) in
+      λ i. ty_cons (e i) (f i)

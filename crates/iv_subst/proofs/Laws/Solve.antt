@@ -9,9 +9,10 @@ use Rattle.iv_term.proofs.Laws.Same.{same_name-true, same_name-same}
 use Rattle.std.specs.Prelude.{Result, Ok, Err, OnOk, IfErr}
 use Rattle.iv_subst.specs.declared.no_unify.NoUnify.{NoUnify}
 use Rattle.iv_subst.specs.declared.no_unify.NoUnify.TheVariants.{Clash}
-use Rattle.iv_subst.specs.TySubst.{put_typ, then_put, single, occurs, occurs_any, TyMap, at, assign, composed}
+use Rattle.iv_subst.specs.TySubst.{put_typ, put_typs, then_put, single, occurs, occurs_any, TyMap, at, assign, composed}
+use Rattle.std.specs.Prelude.{◌||◌}
 use Rattle.iv_subst.specs.Unifier.{IsUnifier, IsMostGeneral, IsSolved, followed, unified_under, Difference, nowhere, clash, variable, differ, variables, variables_all, turn, stuck, solve, unified}
-use Rattle.iv_subst.proofs.Laws.Put.{put-variable, put-none, put-put, put-same, single-absorbed, single-instance, same_name-turned, or-left, or-right, at-assign, at-composed}
+use Rattle.iv_subst.proofs.Laws.Put.{put-variable, put-none, put-put, put-same, single-absorbed, single-instance, same_name-turned, or-left, or-right, at-assign, at-composed, single-other}
 use Rattle.iv_subst.proofs.Laws.Differ.{differ-nowhere, differ-needs, Needs, differ-apart, Apart, Each, EachOf, Each-put, EachIn, differ-each, occurs-apart}
 
 -- soundness and generality
@@ -22,6 +23,8 @@ pub record Solution (s : TyMap) (a b : Typ) (r : TyMap) : Type 0 where
   pub after : (y : Name) → at r y ≡ put_typ by_map (at s y)
   pub unifier : put_typ by_map a ≡ put_typ by_map b
   pub absorbed : (g : Name → Typ) → put_typ g a ≡ put_typ g b → (y : Name) → put_typ g (by_map y) ≡ g y
+  pub stays : (y : Name) → occurs y a ≡ false → occurs y b ≡ false → by_map y ≡ Schematic y
+  pub no_new : (y : Name) → occurs y a ≡ false → occurs y b ≡ false → (z : Name) → same_name y z ≡ false → occurs y (by_map z) ≡ false
 
 abbrev pub Sound : (TyMap → Typ → Typ → Option TyMap) → Type 0
 Sound next = (s : TyMap) (a b : Typ) (r : TyMap) → next s a b ≡ Some r → Solution s a b r
@@ -29,9 +32,73 @@ Sound next = (s : TyMap) (a b : Typ) (r : TyMap) → next s a b ≡ Some r → S
 some-is : (s r : TyMap) → Some s ≡ Some r → s ≡ r
 some-is s r e = cc
 
+or-both : (a b : Bool) → a ≡ false → b ≡ false → (a || b) ≡ false
+or-both false b h k = k
+or-both true b h k = h
+
+-- a variable that doesn't stand in a type, nor in what is put for another, doesn't stand in the type under f
+mutual
+  unfolding occurs occurs_any put_typ put_typs
+
+  lacks-put : (y : Name) (f : Name → Typ) → ((z : Name) → same_name y z ≡ false → occurs y (f z) ≡ false) → (t : Typ) → occurs y t ≡ false
+      → occurs y (put_typ f t) ≡ false
+  lacks-put y f k (Con c ts) h = lacks_all-put y f k ts h
+  lacks-put y f k (Fixed a) h = refl
+  lacks-put y f k (Schematic z) h = k z h
+
+  lacks_all-put : (y : Name) (f : Name → Typ) → ((z : Name) → same_name y z ≡ false → occurs y (f z) ≡ false) → (ts : Types) → occurs_any y ts ≡ false
+      → occurs_any y (put_typs f ts) ≡ false
+  lacks_all-put y f k Nil h = refl
+  lacks_all-put y f k (ty_cons t ts) h =
+      or-both (occurs y (put_typ f t)) (occurs_any y (put_typs f ts)) (lacks-put y f k t (or-left (occurs y t) (occurs_any y ts) h))
+      (lacks_all-put y f k ts (or-right (occurs y t) (occurs_any y ts) h))
+
+lacks-single-by : (y x : Name) (t : Typ) → occurs y t ≡ false → (z : Name) → same_name y z ≡ false → (v : Bool) → occurs y (if v then t else Schematic z) ≡ false
+unfolding occurs
+lacks-single-by y x t h z n true = h
+lacks-single-by y x t h z n false = n
+
+lacks-single : (y x : Name) (t : Typ) → occurs y t ≡ false → (z : Name) → same_name y z ≡ false → occurs y (single x t z) ≡ false
+unfolding single
+lacks-single y x t h z n = lacks-single-by y x t h z n (same_name z x)
+
+-- the first difference has variables of both types alone
+mutual
+  unfolding Each EachOf occurs occurs_any
+
+  each-lacks : (y : Name) (t : Typ) → occurs y t ≡ false → Each (λ z. same_name y z ≡ false) t
+  each-lacks y (Con c ts) h = each_all-lacks y ts h
+  each-lacks y (Fixed a) h = tt
+  each-lacks y (Schematic z) h = h
+
+  each_all-lacks : (y : Name) (ts : Types) → occurs_any y ts ≡ false → EachOf (λ z. same_name y z ≡ false) ts
+  each_all-lacks y Nil h = tt
+  each_all-lacks y (ty_cons t ts) h =
+      (each-lacks y t (or-left (occurs y t) (occurs_any y ts) h), each_all-lacks y ts (or-right (occurs y t) (occurs_any y ts) h))
+
+mutual
+  unfolding Each EachOf occurs occurs_any
+
+  lacks-each : (y : Name) (t : Typ) → Each (λ z. same_name y z ≡ false) t → occurs y t ≡ false
+  lacks-each y (Con c ts) h = lacks_all-each y ts h
+  lacks-each y (Fixed a) h = refl
+  lacks-each y (Schematic z) h = h
+
+  lacks_all-each : (y : Name) (ts : Types) → EachOf (λ z. same_name y z ≡ false) ts → occurs_any y ts ≡ false
+  lacks_all-each y Nil h = refl
+  lacks_all-each y (ty_cons t ts) h = or-both (occurs y t) (occurs_any y ts) (lacks-each y t h.0) (lacks_all-each y ts h.1)
+
+differ-lacks : (a b : Typ) (x : Name) (t : Typ) → differ a b ≡ variable x t → (y : Name) → occurs y a ≡ false → occurs y b ≡ false
+    → (same_name y x ≡ false) × (occurs y t ≡ false)
+differ-lacks a b x t e y h k =
+    let p : EachIn (λ z. same_name y z ≡ false) (variable x t) =
+    subst (EachIn (λ z. same_name y z ≡ false)) e (differ-each (λ z. same_name y z ≡ false) a b (each-lacks y a h) (each-lacks y b k)) in
+    (p.0, lacks-each y t p.1)
+
 later : (s : TyMap) (x : Name) (t a b : Typ) (r : TyMap) → ((g : Name → Typ) → put_typ g a ≡ put_typ g b → g x ≡ put_typ g t)
+    → ((y : Name) → occurs y a ≡ false → occurs y b ≡ false → (same_name y x ≡ false) × (occurs y t ≡ false))
     → Solution (assign s x t) (put_typ (single x t) a) (put_typ (single x t) b) r → Solution s a b r
-later s x t a b r needs q = record {
+later s x t a b r needs lacks q = record {
   by_map = then_put (single x t) q.by_map;
   after = λ y. q.after y ∙ ap (put_typ q.by_map) (at-assign s x t y) ∙ put-put (single x t) q.by_map (at s y);
   unifier = sym (put-put (single x t) q.by_map a) ∙ q.unifier ∙ put-put (single x t) q.by_map b;
@@ -40,6 +107,15 @@ later s x t a b r needs q = record {
       let w : put_typ g (put_typ (single x t) a) ≡ put_typ g (put_typ (single x t) b) =
       single-instance g x t n a ∙ u ∙ sym (single-instance g x t n b) in
       put-put q.by_map g (single x t y) ∙ put-same (then_put q.by_map g) g (q.absorbed g w) (single x t y) ∙ single-absorbed g x t n y;
+  stays = λ y h k.
+      let l = lacks y h k in
+      ap (put_typ q.by_map) (single-other x y t l.0) ∙ put-variable q.by_map y
+      ∙ q.stays y (lacks-put y (single x t) (lacks-single y x t l.1) a h) (lacks-put y (single x t) (lacks-single y x t l.1) b k);
+  no_new = λ y h k z n.
+      let l = lacks y h k in
+      let single_lacks : (v : Name) → same_name y v ≡ false → occurs y (single x t v) ≡ false = lacks-single y x t l.1 in
+      lacks-put y q.by_map (q.no_new y (lacks-put y (single x t) single_lacks a h) (lacks-put y (single x t) single_lacks b k))
+      (single x t z) (single_lacks z n);
 }
 
 if-some : (next : Option TyMap) (r : TyMap) (v : Bool) → (if v then None else next) ≡ Some r → next ≡ Some r
@@ -48,18 +124,20 @@ if-some next r false h = h
 
 turn-sound : (next : TyMap → Typ → Typ → Option TyMap) → Sound next → (s : TyMap) (a b : Typ) (r : TyMap) (d : Difference)
     → differ a b ≡ d → turn next s a b d ≡ Some r → Solution s a b r
-unfolding turn
+unfolding turn occurs
 turn-sound next k s a b r nowhere e h = record {
   by_map = Schematic;
   after = λ y. ap (λ m. at m y) (sym (some-is s r h)) ∙ sym (put-none (at s y));
   unifier = ap (put_typ Schematic) (differ-nowhere a b e);
   absorbed = λ g u y. put-variable g y;
+  stays = λ y h k. refl;
+  no_new = λ y h k z n. n;
 }
 turn-sound next k s a b r clash e h = absurd (let bad : None ≡ Some r = h in cc)
 turn-sound next k s a b r (variable x t) e h =
     let n : (g : Name → Typ) → put_typ g a ≡ put_typ g b → g x ≡ put_typ g t =
     λ g u. subst (Needs g) e (differ-needs g a b u) in
-    later s x t a b r n (k _ _ _ r (if-some _ r (occurs x t) h))
+    later s x t a b r n (differ-lacks a b x t e) (k _ _ _ r (if-some _ r (occurs x t) h))
 
 stuck-sound : Sound stuck
 stuck-sound s a b r h = absurd (let bad : None ≡ Some r = h in cc)
@@ -250,6 +328,8 @@ solved-by s a b r q = record {
     general = λ g u. (g, λ x. sym (q.absorbed g u x));
     absorbed = q.absorbed;
     idempotent = q.absorbed q.by_map q.unifier;
+    stays = q.stays;
+    no_new = q.no_new;
   };
 }
 
@@ -283,7 +363,7 @@ under-solved a b s r h =
     let q = unified-solved left right [] r h in
     let by : (y : Name) → at r y ≡ q.by_map y = λ y. q.after y ∙ put-variable q.by_map y in
     let m : IsMostGeneral q.by_map left right =
-        subst (λ z. IsMostGeneral q.by_map z right) (nothing-at left) (subst (IsMostGeneral q.by_map (put_typ (at []) left)) (nothing-at right) q.most_general) in
+    subst (λ z. IsMostGeneral q.by_map z right) (nothing-at left) (subst (IsMostGeneral q.by_map (put_typ (at []) left)) (nothing-at right) q.most_general) in
     record { by_map = q.by_map; after = λ y. at-composed s r y ∙ put-same (at r) q.by_map by (at s y); most_general = m }
 
 pub under-none : (a b : Typ) → unified a b [] ≡ None → (g : Name → Typ) → IsUnifier g a b → ⊥

@@ -1,17 +1,13 @@
 -- Laws of assignments in triangular form.
-use Rattle.std.proofs.Common.{◌≡◌, ℕ, Bool, true, false, refl, sym, ◌∙◌, ap, subst, List, [], ◌∷◌, ◌++◌, Option, None, Some, if◌then◌else◌, ◌≤◌, ◌<◌, ◌+◌, zero, suc, arith, length, is_some}
-use Rattle.std.specs.Option.{unwrap_or}
-use Rattle.std.proofs.lemmas.List.{append_assoc}
+use Rattle.std.proofs.Common.{◌≡◌, ℕ, Bool, true, false, refl, sym, ◌∙◌, ap, subst, [], ◌∷◌, ◌++◌, Option, None, Some, if◌then◌else◌, ◌≤◌, ◌<◌, suc, arith, length}
 use Rattle.iv_term.specs.declared.name.Name.{Name}
 use Rattle.iv_term.specs.declared.typ.Typ.{Typ}
-use Rattle.iv_term.specs.declared.typ.Types.{Types}
-use Rattle.iv_term.specs.declared.typ.Typ.TheBlock.{Con, Fixed, Schematic, Nil}
-use Rattle.iv_term.specs.Typ.{ty_cons, same_name}
+use Rattle.iv_term.specs.declared.typ.Typ.TheBlock.{Schematic}
+use Rattle.iv_term.specs.Typ.{same_name}
 use Rattle.iv_term.proofs.Laws.Same.{same_name-true, same_name-same}
-use Rattle.iv_subst.specs.TySubst.{put_typ, put_typs, then_put, single, occurs, TyMap, seek, at, has, under, assign, IsIdempotent}
+use Rattle.iv_subst.specs.TySubst.{put_typ, then_put, single, occurs, TyMap, seek, at, under, assign, IsIdempotent}
 use Rattle.iv_subst.specs.Solved.{grown, solved, rank, AreSolved, IsHead}
-use Rattle.iv_subst.proofs.Laws.Put.{put-variable, put-put, put-same, single-absent, at-assign, at-behind, idempotent-assign, same_name-turned}
-use Rattle.iv_subst.proofs.Laws.Entries.{at-seek, has-seek}
+use Rattle.iv_subst.proofs.Laws.Put.{put-variable, put-put, put-same, single-absent, at-assign, idempotent-assign, same_name-turned}
 
 pub grown-push : (s es : TyMap) (x : Name) (t : Typ) → grown s (es ++ (x, t) ∷ []) ≡ assign (grown s es) x (put_typ (at (grown s es)) t)
 unfolding grown
@@ -179,7 +175,7 @@ fixed-push es x t k out =
     let f = at (assign s x u) in
     let pass : (y : Name) → f y ≡ then_put (at s) (single x u) y = at-assign s x u in
     let front : under (single x u) s ≡ under f es =
-        ap (under (single x u)) k.fixed ∙ under-under (at s) (single x u) es ∙ under-same _ _ (λ y. sym (pass y)) es in
+    ap (under (single x u)) k.fixed ∙ under-under (at s) (single x u) es ∙ under-same _ _ (λ y. sym (pass y)) es in
     let value : put_typ f t ≡ u = put-same _ _ pass t ∙ sym (put-put (at s) (single x u) t) ∙ single-absent x u u out in
     (λ i. front i ++ (x, sym value i) ∷ []) ∙ sym (under-append f es ((x, t) ∷ []))
 
@@ -195,7 +191,7 @@ solved-push es x t k free top out =
     record {
       fixed = subst (λ m. m ≡ under (at m) (es ++ (x, t) ∷ [])) (sym e) fixed;
       linked = λ y z h. linked-by es x t k free top out y z (seek es y) refl h;
-      clean = subst (λ m. IsIdempotent (at m)) (sym e) clean
+      clean = subst (λ m. IsIdempotent (at m)) (sym e) clean;
     }
 
 pub solved-none : AreSolved []

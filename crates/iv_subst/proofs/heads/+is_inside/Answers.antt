@@ -1,4 +1,4 @@
-use Rattle.std.proofs.Common.{◌≡◌, subst, arith}
+use Rattle.std.proofs.Common.{subst, arith}
 use Rattle.iv_term.specs.declared.typ.Typ.TheBlock.{Schematic}
 use Rattle.iv_term.specs.Typ.{cons_is}
 use Rattle.iv_subst.specs.TySubst.{put_typ, put_typs, occurs, occurs_any}

@@ -1,4 +1,4 @@
-use Rattle.std.proofs.Common.{◌≡◌, ◌∙◌, sym}
+use Rattle.std.proofs.Common.{◌∙◌, sym}
 use Rattle.iv_subst.proofs.Laws.Heads.{link-rank, link-same, link-head}
 use Rattle.iv_subst.proofs.heads.head.Goals as goal
 

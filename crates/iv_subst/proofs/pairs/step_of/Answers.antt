@@ -1,4 +1,4 @@
-use Rattle.std.proofs.Common.{◌≡◌, sym}
+use Rattle.std.proofs.Common.{sym}
 use Rattle.iv_subst.specs.Pairs.{step_of}
 use Rattle.iv_subst.proofs.Laws.Pairs.{step-left}
 use Rattle.iv_subst.proofs.pairs.step_of.Goals as goal
@@ -46,12 +46,16 @@ pub returns-in_ok-copy-in-Schematic-right-3-2-clause-ok : goal.returns-in_ok-cop
 unfolding step_of
 returns-in_ok-copy-in-Schematic-right-3-2-clause-ok c =
     rw (
-        c.in_ok-copy-in-Schematic-right-3.ensures.ok, c.in_ok-copy-in-Schematic-right-3-2.ensures.ok, c.in-Schematic.is, c.in-Schematic-right-3.is,
-        ← c.is-in-Schematic-right-3.ensures.same, c.if-is.false
+      c.in_ok-copy-in-Schematic-right-3.ensures.ok,
+      c.in_ok-copy-in-Schematic-right-3-2.ensures.ok,
+      c.in-Schematic.is,
+      c.in-Schematic-right-3.is,
+      ← c.is-in-Schematic-right-3.ensures.same,
+      c.if-is.false,
     )
 
 pub returns-in_ok-copy-in_default-2 : goal.returns-in_ok-copy-in_default-2
 returns-in_ok-copy-in_default-2 c = record {
   ok = rw (c.in_ok-copy-in_default.ensures.ok, c.in_ok-copy-in_default-2.ensures.ok, c.in-Schematic.is) (sym (step-left c.in-Schematic.x c.args.right.now c.in_default.not-Schematic));
-  memory = tt
+  memory = tt;
 }

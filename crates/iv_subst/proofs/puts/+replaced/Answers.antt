@@ -1,11 +1,9 @@
-use Rattle.std.proofs.Common.{◌≡◌, ◌≤◌, subst, sym, ◌∙◌, arith}
-use Rattle.iv_term.specs.declared.typ.Typ.TheBlock.{Con, Schematic}
+use Rattle.std.proofs.Common.{◌∙◌, arith}
 use Rattle.iv_term.specs.Typ.{cons_is}
 use Rattle.iv_subst.specs.TySubst.{put_typ, put_typs}
-use Rattle.iv_subst.specs.Solved.{IsHead}
 use Rattle.iv_subst.specs.Pairs.{size, size_all}
 use Rattle.iv_subst.proofs.Laws.Entries.{con-changed, parts-changed}
-use Rattle.iv_subst.proofs.Laws.Heads.{followed, followed-small, followed-con, unassigned, assigned, assigned-smaller}
+use Rattle.iv_subst.proofs.Laws.Heads.{followed-small, followed-con, unassigned, assigned, assigned-smaller}
 use Rattle.iv_subst.proofs.puts.+replaced.Goals as goal
 
 pub replaced-replaced_all-requires : goal.replaced-replaced_all-requires
@@ -27,7 +25,7 @@ replaced-returns-in-None-clause-ok t c = rw c.in-Schematic.is (unassigned c.args
 pub replaced-replaced-requires : goal.replaced-replaced-requires
 replaced-replaced-requires t c = (
   rw (← c.decreases, c.in-Schematic.is)
-  (assigned-smaller c.args.es.now c.requires c.in-Schematic.x c.in-Some.value.now c.head-top.result.now c.in-Some.ensures c.head-top.ensures.same c.head-top.ensures.head),
+      (assigned-smaller c.args.es.now c.requires c.in-Schematic.x c.in-Some.value.now c.head-top.result.now c.in-Some.ensures c.head-top.ensures.same c.head-top.ensures.head),
   c.requires,
 )
 
