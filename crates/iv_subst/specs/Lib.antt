@@ -1,0 +1,4 @@
+pub mod TySubst
+pub mod Unifier
+pub mod Solved
+pub mod Pairs

@@ -1,0 +1,23 @@
+//! Types put for schematic variables, and unification of types.
+//!
+//! [`TySubst`] is a finite map from schematic type variables to types, which are put all at once. [`unify_types`]
+//! finds a most general unifier; [`Solved`] goes on from what earlier calls found.
+#![tactic(auto)]
+
+mod apply;
+mod compose;
+mod heads;
+pub mod no_unify;
+mod pairs;
+mod puts;
+pub mod solved;
+pub mod statements;
+pub mod ty_subst;
+mod unify;
+
+pub use no_unify::NoUnify;
+pub use solved::{Solved, unify_types};
+pub use ty_subst::TySubst;
+
+#[cfg(test)]
+mod tests;
