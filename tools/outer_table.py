@@ -328,29 +328,39 @@ impl Sort {
     out += "\n-- all classes\nunfoldable pub classes : List Class\nclasses = %s ∷ []\n" % ' ∷ '.join(CLASSES)
     for n, ms in SORTS.items():
         out += "\nabbrev pub %s : List Class\n%s = %s ∷ []\n" % (snake(n).lower() + '_classes', snake(n).lower() + '_classes', ' ∷ '.join(ms))
+    out += "\n-- the members of a set\nabbrev pub members : Sort → List Class\nmembers (sort.Only only) = only ∷ []\n"
+    for n in SORTS:
+        out += "members sort.%s = %s\n" % (n, snake(n).lower() + '_classes')
     out += "\n-- whether a set has a class\nabbrev pub has : Sort → Class → Bool\nhas (sort.Only only) c = same_class c only\n"
     for n in SORTS:
         out += "has sort.%s c = list_any (same_class c) %s\n" % (n, snake(n).lower() + '_classes')
     save('iv_gram/specs/Class.antt', out)
 
 
+def described(rows):
+    return '; or '.join('`%s`' % ' '.join(const(n) if k == 'word' else n for k, n in r) if r else 'nothing' for r in rows)
+
+
 def write_table(t):
     words = list(dict.fromkeys(n for rows in t.parts.values() for r in rows for k, n in r if k == 'word'))
     parts = list(t.parts)
-    out = HEAD + "//! The table of forms: each part with its rows.\nghost use Rattle.std.specs.Prelude.{◌≡◌};\nghost use Rattle.iv_gram.specs.Table.{forms, plain};\n\nuse crate::class::{Class, Sort};\n\n"
-    out += "/// A part of the forms.\n#[derive(Clone, Copy, Debug, PartialEq, Eq)]\npub enum Part {\n"
-    for p in parts:
-        out += "    /// Rows of the part.\n    %s,\n" % p
+    out = HEAD + "//! The parts of the forms.\n\nuse crate::class::{Class, Sort};\n\n"
+    out += "/// A part of the forms. Each has its rows here: in small letters parts, in capitals tokens.\n#[derive(Clone, Copy, Debug, PartialEq, Eq)]\npub enum Part {\n"
+    for p, rows in t.parts.items():
+        out += "    /// %s\n" % ('A command: its word, and what stands behind it.' if p == 'Command' else described(rows))
+        out += "    %s,\n" % p
     out += "}\n\n/// What stands in a row: a token, or a part.\n#[derive(Clone, Copy, Debug, PartialEq, Eq)]\npub enum Symbol {\n    /// A token of a set.\n    Word(Sort),\n    /// A part.\n    Goes(Part),\n}\n\n"
     for w in words:
-        out += "const %s: Symbol = Symbol::Word(Sort::%s);\n" % ('W_' + const(w), w if w in SORTS else 'Only(Class::%s)' % w)
-    for p in parts:
-        if any(('part', p) in r for rows in t.parts.values() for r in rows):
-            out += "const %s: Symbol = Symbol::Goes(Part::%s);\n" % (const(p), p)
-    out += '\n'
+        out += "pub(crate) const %s: Symbol = Symbol::Word(Sort::%s);\n" % ('W_' + const(w), w if w in SORTS else 'Only(Class::%s)' % w)
+    called = [p for p in parts if any(('part', p) in r for rows in t.parts.values() for r in rows)]
+    for p in called:
+        out += "pub(crate) const %s: Symbol = Symbol::Goes(Part::%s);\n" % (const(p), p)
+    save('iv_gram/src/part.rt', out)
+    out = HEAD + "//! The table of forms: each part with its rows.\nghost use Rattle.std.specs.Prelude.{◌≡◌};\nghost use Rattle.iv_gram.specs.Table.{forms, plain};\n\n"
+    out += "use crate::part::{%s, Part, Symbol};\n\n" % ', '.join(sorted([const(p) for p in called] + ['W_' + const(w) for w in words]))
     for p, rows in t.parts.items():
         rs = ', '.join('&[' + ', '.join(('W_' if k == 'word' else '') + const(n) for k, n in r) + ']' for r in rows)
-        out += "pub const %s_ROWS: &[&[Symbol]] = &[%s];\n" % (const(p), rs)
+        out += "const %s_ROWS: &[&[Symbol]] = &[%s];\n" % (const(p), rs)
     out += "\n/// The rows of a part.\npub fn forms(part: Part) -> &'static [&'static [Symbol]]\n    ensures { plain result.now ≡ forms part }\n{\n    match part {\n"
     for p in parts:
         out += "        Part::%s => %s_ROWS,\n" % (p, const(p))
@@ -360,8 +370,8 @@ def write_table(t):
     out += "use Rattle.std.specs.Prelude.{List, [], ◌∷◌, map}\nuse Rattle.std.specs.Borrow.{Bor}\n"
     out += "use Rattle.iv_gram.specs.declared.class.Class.{Class}\nuse Rattle.iv_gram.specs.declared.class.Class.TheVariants as class\n"
     out += "use Rattle.iv_gram.specs.declared.class.Sort.TheVariants as sort\n"
-    out += "use Rattle.iv_gram.specs.declared.table.Part.{Part}\nuse Rattle.iv_gram.specs.declared.table.Part.TheVariants.{%s}\n" % ', '.join(parts)
-    out += "use Rattle.iv_gram.specs.declared.table.Symbol.{Symbol}\nuse Rattle.iv_gram.specs.declared.table.Symbol.TheVariants.{Word, Goes}\n\n"
+    out += "use Rattle.iv_gram.specs.declared.part.Part.{Part}\nuse Rattle.iv_gram.specs.declared.part.Part.TheVariants.{%s}\n" % ', '.join(parts)
+    out += "use Rattle.iv_gram.specs.declared.part.Symbol.{Symbol}\nuse Rattle.iv_gram.specs.declared.part.Symbol.TheVariants.{Word, Goes}\n\n"
     for w in words:
         out += "abbrev pub %s : Symbol\n%s = Word %s\n" % (const(w), const(w), 'sort.' + w if w in SORTS else '(sort.Only class.%s)' % w)
     out += "\n-- the rows of each part\nabbrev pub forms : Part → List (List Symbol)\n"
@@ -379,11 +389,11 @@ def write_table(t):
 def write_proofs(t):
     parts = list(t.parts)
     imp = "use Rattle.iv_gram.specs.declared.class.Class.{Class}\nuse Rattle.iv_gram.specs.declared.class.Class.TheVariants as class\n"
-    pimp = "use Rattle.iv_gram.specs.declared.table.Part.{Part}\nuse Rattle.iv_gram.specs.declared.table.Part.TheVariants as part\n"
+    pimp = "use Rattle.iv_gram.specs.declared.part.Part.{Part}\nuse Rattle.iv_gram.specs.declared.part.Part.TheVariants as part\n"
     # classes by their numbers
     out = HEAD2 + "-- Each class by its number.\nuse Rattle.std.proofs.Common.{◌≡◌, ℕ, List, refl}\nuse Rattle.std.specs.Prelude.{Some}\n" + imp
     out += "use Rattle.iv_gram.specs.declared.class.Sort.{Sort}\nuse Rattle.iv_gram.specs.declared.class.Sort.TheVariants as sort\n"
-    out += "use denote.Enum.Declared.{tag_of}\nuse Rattle.iv_gram.specs.contracts.class.Class.{the_type}\nuse Rattle.iv_gram.specs.Class.{number, classes, has}\nuse Rattle.iv_gram.proofs.Sets.{nth, members, Among, has_only}\n\n"
+    out += "use denote.Enum.Declared.{tag_of}\nuse Rattle.iv_gram.specs.contracts.class.Class.{the_type}\nuse Rattle.iv_gram.specs.Class.{number, classes, members, has}\nuse Rattle.iv_gram.proofs.Sets.{nth, Among, has_only}\n\n"
     out += "-- the number of a variant in the code\npub tag_is : (c : Class) → tag_of the_type c ≡ number c\n"
     for c in CLASSES:
         out += "tag_is class.%s = refl\n" % c

@@ -1,8 +1,8 @@
 -- Written by tools/outer_table.py. Do not edit.
 -- The table is checked, part by part.
 use Rattle.std.proofs.Common.{◌≡◌, refl, true}
-use Rattle.iv_gram.specs.declared.table.Part.{Part}
-use Rattle.iv_gram.specs.declared.table.Part.TheVariants as part
+use Rattle.iv_gram.specs.declared.part.Part.{Part}
+use Rattle.iv_gram.specs.declared.part.Part.TheVariants as part
 use Rattle.iv_gram.specs.Table.{forms}
 use Rattle.iv_gram.proofs.Follow.{follow, sample}
 use Rattle.iv_gram.proofs.Checks.{is_good, is_sampled}

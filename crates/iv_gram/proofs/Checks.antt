@@ -3,13 +3,13 @@ use Rattle.std.proofs.Common.{List, [], ◌∷◌, ◌++◌, Bool, true, false}
 use Rattle.std.specs.Prelude.{Option, Some, None, ◌&&◌, is_none, if◌then◌else◌}
 use Rattle.std.specs.List.{list_any, list_all}
 use Rattle.iv_gram.specs.declared.class.Class.{Class}
-use Rattle.iv_gram.specs.declared.table.Part.{Part}
-use Rattle.iv_gram.specs.declared.table.Symbol.{Symbol}
-use Rattle.iv_gram.specs.declared.table.Symbol.TheVariants.{Word, Goes}
+use Rattle.iv_gram.specs.declared.part.Part.{Part}
+use Rattle.iv_gram.specs.declared.part.Symbol.{Symbol}
+use Rattle.iv_gram.specs.declared.part.Symbol.TheVariants.{Word, Goes}
 use Rattle.iv_gram.specs.Class.{same_class}
 use Rattle.iv_gram.specs.Spell.{Grammar}
 use Rattle.iv_gram.specs.Step.{found, may_end, step, empties}
-use Rattle.iv_gram.proofs.Sets.{members}
+use Rattle.iv_gram.specs.Class.{members}
 
 -- what begins one of some rows
 abbrev pub heads : List (List Symbol) → List Class

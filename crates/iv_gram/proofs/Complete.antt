@@ -4,9 +4,9 @@ use Rattle.std.specs.Prelude.{Option, Some, None, ◌&&◌, is_none, if◌then�
 use Rattle.std.specs.List.{list_any, list_all}
 use Rattle.iv_gram.specs.declared.class.Class.{Class}
 use Rattle.iv_gram.specs.declared.class.Sort.{Sort}
-use Rattle.iv_gram.specs.declared.table.Part.{Part}
-use Rattle.iv_gram.specs.declared.table.Symbol.{Symbol}
-use Rattle.iv_gram.specs.declared.table.Symbol.TheVariants.{Word, Goes}
+use Rattle.iv_gram.specs.declared.part.Part.{Part}
+use Rattle.iv_gram.specs.declared.part.Symbol.{Symbol}
+use Rattle.iv_gram.specs.declared.part.Symbol.TheVariants.{Word, Goes}
 use Rattle.iv_gram.specs.Class.{same_class, has}
 use Rattle.iv_gram.specs.Spell.{Grammar, IsIn, Spells, word, part}
 use Rattle.iv_gram.specs.Step.{found, may_end, went, step, empties}

@@ -3,8 +3,8 @@
 use Rattle.std.proofs.Common.{List, [], ◌∷◌}
 use Rattle.iv_gram.specs.declared.class.Class.{Class}
 use Rattle.iv_gram.specs.declared.class.Class.TheVariants as class
-use Rattle.iv_gram.specs.declared.table.Part.{Part}
-use Rattle.iv_gram.specs.declared.table.Part.TheVariants as part
+use Rattle.iv_gram.specs.declared.part.Part.{Part}
+use Rattle.iv_gram.specs.declared.part.Part.TheVariants as part
 
 -- what may follow a part
 abbrev pub follow : Part → List Class

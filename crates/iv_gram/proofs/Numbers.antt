@@ -8,8 +8,8 @@ use Rattle.iv_gram.specs.declared.class.Sort.{Sort}
 use Rattle.iv_gram.specs.declared.class.Sort.TheVariants as sort
 use denote.Enum.Declared.{tag_of}
 use Rattle.iv_gram.specs.contracts.class.Class.{the_type}
-use Rattle.iv_gram.specs.Class.{number, classes, has}
-use Rattle.iv_gram.proofs.Sets.{nth, members, Among, has_only}
+use Rattle.iv_gram.specs.Class.{number, classes, members, has}
+use Rattle.iv_gram.proofs.Sets.{nth, Among, has_only}
 
 -- the number of a variant in the code
 pub tag_is : (c : Class) → tag_of the_type c ≡ number c

@@ -4,13 +4,14 @@ use Rattle.std.specs.Prelude.{Option, Some, None, ◌⊎◌, ◌&&◌, is_none, 
 use Rattle.std.specs.List.{list_all}
 use Rattle.iv_gram.specs.declared.class.Class.{Class}
 use Rattle.iv_gram.specs.declared.class.Sort.{Sort}
-use Rattle.iv_gram.specs.declared.table.Part.{Part}
-use Rattle.iv_gram.specs.declared.table.Symbol.{Symbol}
-use Rattle.iv_gram.specs.declared.table.Symbol.TheVariants.{Word, Goes}
+use Rattle.iv_gram.specs.declared.part.Part.{Part}
+use Rattle.iv_gram.specs.declared.part.Symbol.{Symbol}
+use Rattle.iv_gram.specs.declared.part.Symbol.TheVariants.{Word, Goes}
 use Rattle.iv_gram.specs.Class.{has}
 use Rattle.iv_gram.specs.Spell.{Grammar, IsIn, Spells, word, part}
 use Rattle.iv_gram.specs.Step.{behind, first_some, found, may_end, empties}
-use Rattle.iv_gram.proofs.Sets.{members, Among, and_left, and_right, among_parts, among_left, among_right}
+use Rattle.iv_gram.specs.Class.{members}
+use Rattle.iv_gram.proofs.Sets.{Among, and_left, and_right, among_parts, among_left, among_right}
 use Rattle.iv_gram.proofs.Numbers.{has_members}
 use Rattle.iv_gram.proofs.Same.{all_among}
 use Rattle.iv_gram.proofs.Checks.{heads, firsts, is_alone, is_made}

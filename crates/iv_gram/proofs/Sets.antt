@@ -3,9 +3,7 @@ use Rattle.std.proofs.Common.{◌≡◌, ℕ, zero, suc, List, [], ◌∷◌, �
 use Rattle.std.specs.Prelude.{Option, Some, None, ◌⊎◌, ◌&&◌, ◌||◌}
 use Rattle.std.specs.List.{list_any}
 use Rattle.iv_gram.specs.declared.class.Class.{Class}
-use Rattle.iv_gram.specs.declared.class.Sort.{Sort}
-use Rattle.iv_gram.specs.declared.class.Sort.TheVariants as sort
-use Rattle.iv_gram.specs.Class.{same_class, identifier_classes, name_classes, other_name_classes, call_name_classes, subject_name_classes, term_classes, no_name_classes, no_ident_classes, type_classes, quoted_classes, numeral_classes, priority_classes, mark_classes, binding_classes}
+use Rattle.iv_gram.specs.Class.{same_class}
 
 -- the item at an index
 abbrev pub nth : {A : Type 0} → ℕ → List A → Option A
@@ -16,24 +14,6 @@ nth (suc n) (x ∷ xs) = nth n xs
 -- a class is one of these
 abbrev pub Among : Class → List Class → Type 0
 Among c cs = list_any (same_class c) cs ≡ true
-
--- the members of a set
-abbrev pub members : Sort → List Class
-members (sort.Only o) = o ∷ []
-members sort.Identifier = identifier_classes
-members sort.Name = name_classes
-members sort.OtherName = other_name_classes
-members sort.CallName = call_name_classes
-members sort.SubjectName = subject_name_classes
-members sort.Term = term_classes
-members sort.NoName = no_name_classes
-members sort.NoIdent = no_ident_classes
-members sort.Type = type_classes
-members sort.Quoted = quoted_classes
-members sort.Numeral = numeral_classes
-members sort.Priority = priority_classes
-members sort.Mark = mark_classes
-members sort.Binding = binding_classes
 
 pub and_left : (a b : Bool) → (a && b) ≡ true → a ≡ true
 and_left true b h = refl

@@ -173,6 +173,24 @@ mark_classes = Question ∷ Exclamation ∷ []
 abbrev pub binding_classes : List Class
 binding_classes = Plain ∷ Spaced ∷ []
 
+-- the members of a set
+abbrev pub members : Sort → List Class
+members (sort.Only only) = only ∷ []
+members sort.Identifier = identifier_classes
+members sort.Name = name_classes
+members sort.OtherName = other_name_classes
+members sort.CallName = call_name_classes
+members sort.SubjectName = subject_name_classes
+members sort.Term = term_classes
+members sort.NoName = no_name_classes
+members sort.NoIdent = no_ident_classes
+members sort.Type = type_classes
+members sort.Quoted = quoted_classes
+members sort.Numeral = numeral_classes
+members sort.Priority = priority_classes
+members sort.Mark = mark_classes
+members sort.Binding = binding_classes
+
 -- whether a set has a class
 abbrev pub has : Sort → Class → Bool
 has (sort.Only only) c = same_class c only

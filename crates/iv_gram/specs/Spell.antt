@@ -2,9 +2,9 @@
 use Rattle.std.specs.Prelude.{suc, ◌<◌, ◌≡◌, ◌⊎◌, List, [], ◌∷◌, ◌++◌, length, take, true}
 use Rattle.iv_gram.specs.declared.class.Class.{Class}
 use Rattle.iv_gram.specs.declared.class.Sort.{Sort}
-use Rattle.iv_gram.specs.declared.table.Part.{Part}
-use Rattle.iv_gram.specs.declared.table.Symbol.{Symbol}
-use Rattle.iv_gram.specs.declared.table.Symbol.TheVariants.{Word, Goes}
+use Rattle.iv_gram.specs.declared.part.Part.{Part}
+use Rattle.iv_gram.specs.declared.part.Symbol.{Symbol}
+use Rattle.iv_gram.specs.declared.part.Symbol.TheVariants.{Word, Goes}
 use Rattle.iv_gram.specs.declared.reading.Verdict.{Verdict}
 use Rattle.iv_gram.specs.declared.reading.Verdict.TheVariants.{Whole, Cut, Refused}
 use Rattle.iv_gram.specs.Class.{has}

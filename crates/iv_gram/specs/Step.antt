@@ -3,8 +3,8 @@ use Rattle.std.specs.Prelude.{◌≡◌, List, [], ◌∷◌, ◌++◌, Bool, tr
 use Rattle.std.specs.List.{list_all}
 use Rattle.std.specs.Borrow.{Bor}
 use Rattle.iv_gram.specs.declared.class.Class.{Class}
-use Rattle.iv_gram.specs.declared.table.Symbol.{Symbol}
-use Rattle.iv_gram.specs.declared.table.Symbol.TheVariants.{Word, Goes}
+use Rattle.iv_gram.specs.declared.part.Symbol.{Symbol}
+use Rattle.iv_gram.specs.declared.part.Symbol.TheVariants.{Word, Goes}
 use Rattle.iv_gram.specs.Class.{has}
 use Rattle.iv_gram.specs.Spell.{Grammar}
 

@@ -4,10 +4,10 @@ use Rattle.std.specs.Prelude.{List, [], ◌∷◌, map}
 use Rattle.std.specs.Borrow.{Bor}
 use Rattle.iv_gram.specs.declared.class.Class.TheVariants as class
 use Rattle.iv_gram.specs.declared.class.Sort.TheVariants as sort
-use Rattle.iv_gram.specs.declared.table.Part.{Part}
-use Rattle.iv_gram.specs.declared.table.Part.TheVariants.{Fact, Facts, MoreFacts, Sels, Sel, SelTo, MoreSels, OptAtts, MoreAtts, Att, OptMark, OfFacts, FactPlaces, ThenFact, OfTerms, TermPlaces, MoreWheres, Prop, Pattern, Terms, Claim, ClaimName, Props, PropsName, MoreProps, LabelledTerm, TermName, Names, Idents, OfType, Vars, MoreVars, OptFor, Const, Fix, Fixity, Method, OptMethod, Suffix, OptNat, MoreAlt, MoreSemi, MoreSeq, Item, RuleRest, CallRest, CallArgs, CallIdent, Sections, SectionIdent, MatchRest, SubjectName, Cases, MoreCases, Pat, PatIdent, Cut, MorePats, Typed, MoreTvars, MoreConsts, JudgmentForm, Axiomatized, AxiomConsts, Axiom, MoreAxioms, Parts, UsesDeclares, MethodsDeclares, MethodsUses, MethodsAlone, UsesAlone, DeclaresAlone, Body, Statement, StatementName, Stated, OptAssumes, MoreEquations, NoteName, NoteEqual, NoteMore, Obtained, ObtainedOne, ObtainedMore, Command}
-use Rattle.iv_gram.specs.declared.table.Symbol.{Symbol}
-use Rattle.iv_gram.specs.declared.table.Symbol.TheVariants.{Word, Goes}
+use Rattle.iv_gram.specs.declared.part.Part.{Part}
+use Rattle.iv_gram.specs.declared.part.Part.TheVariants.{Fact, Facts, MoreFacts, Sels, Sel, SelTo, MoreSels, OptAtts, MoreAtts, Att, OptMark, OfFacts, FactPlaces, ThenFact, OfTerms, TermPlaces, MoreWheres, Prop, Pattern, Terms, Claim, ClaimName, Props, PropsName, MoreProps, LabelledTerm, TermName, Names, Idents, OfType, Vars, MoreVars, OptFor, Const, Fix, Fixity, Method, OptMethod, Suffix, OptNat, MoreAlt, MoreSemi, MoreSeq, Item, RuleRest, CallRest, CallArgs, CallIdent, Sections, SectionIdent, MatchRest, SubjectName, Cases, MoreCases, Pat, PatIdent, Cut, MorePats, Typed, MoreTvars, MoreConsts, JudgmentForm, Axiomatized, AxiomConsts, Axiom, MoreAxioms, Parts, UsesDeclares, MethodsDeclares, MethodsUses, MethodsAlone, UsesAlone, DeclaresAlone, Body, Statement, StatementName, Stated, OptAssumes, MoreEquations, NoteName, NoteEqual, NoteMore, Obtained, ObtainedOne, ObtainedMore, Command}
+use Rattle.iv_gram.specs.declared.part.Symbol.{Symbol}
+use Rattle.iv_gram.specs.declared.part.Symbol.TheVariants.{Word, Goes}
 
 abbrev pub NAME : Symbol
 NAME = Word sort.Name

@@ -7,12 +7,15 @@
 #![tactic(auto)]
 
 pub mod class;
+pub mod laws;
+pub mod part;
 pub mod reading;
 pub mod table;
 
 pub use class::{Class, Sort};
+pub use part::{Part, Symbol};
 pub use reading::{Verdict, read};
-pub use table::{Part, Symbol, forms};
+pub use table::forms;
 
 #[cfg(test)]
 mod tests;

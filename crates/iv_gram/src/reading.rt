@@ -1,13 +1,14 @@
 ghost use Rattle.std.specs.Prelude.{◌≡◌, IfOk, IfErr, OnOk, ◌++◌, ◌∷◌, [], reverse};
 ghost use Rattle.std.specs.List.{list_all};
 ghost use Rattle.iv_term.specs.declared.want.Want.TheVariants.{Memory};
-ghost use Rattle.iv_gram.specs.declared.table.Symbol.TheVariants.{Goes};
+ghost use Rattle.iv_gram.specs.declared.part.Symbol.TheVariants.{Goes};
 ghost use Rattle.iv_gram.specs.Table.{forms, plain};
 ghost use Rattle.iv_gram.specs.Spell.{Judged};
 ghost use Rattle.iv_gram.specs.Step.{behind, found, may_end, passes, Stepped, rest_of};
 
 use crate::class::Class;
-use crate::table::{Part, Symbol, forms};
+use crate::part::{Part, Symbol};
+use crate::table::forms;
 use iv_term::Mem;
 use std::alloc::Global;
 

@@ -3,623 +3,235 @@
 ghost use Rattle.std.specs.Prelude.{◌≡◌};
 ghost use Rattle.iv_gram.specs.Table.{forms, plain};
 
-use crate::class::{Class, Sort};
-
-/// A part of the forms.
-#[derive(Clone, Copy, Debug, PartialEq, Eq)]
-pub enum Part {
-    /// Rows of the part.
-    Fact,
-    /// Rows of the part.
-    Facts,
-    /// Rows of the part.
-    MoreFacts,
-    /// Rows of the part.
-    Sels,
-    /// Rows of the part.
-    Sel,
-    /// Rows of the part.
-    SelTo,
-    /// Rows of the part.
-    MoreSels,
-    /// Rows of the part.
-    OptAtts,
-    /// Rows of the part.
-    MoreAtts,
-    /// Rows of the part.
-    Att,
-    /// Rows of the part.
-    OptMark,
-    /// Rows of the part.
-    OfFacts,
-    /// Rows of the part.
-    FactPlaces,
-    /// Rows of the part.
-    ThenFact,
-    /// Rows of the part.
-    OfTerms,
-    /// Rows of the part.
-    TermPlaces,
-    /// Rows of the part.
-    MoreWheres,
-    /// Rows of the part.
-    Prop,
-    /// Rows of the part.
-    Pattern,
-    /// Rows of the part.
-    Terms,
-    /// Rows of the part.
-    Claim,
-    /// Rows of the part.
-    ClaimName,
-    /// Rows of the part.
-    Props,
-    /// Rows of the part.
-    PropsName,
-    /// Rows of the part.
-    MoreProps,
-    /// Rows of the part.
-    LabelledTerm,
-    /// Rows of the part.
-    TermName,
-    /// Rows of the part.
-    Names,
-    /// Rows of the part.
-    Idents,
-    /// Rows of the part.
-    OfType,
-    /// Rows of the part.
-    Vars,
-    /// Rows of the part.
-    MoreVars,
-    /// Rows of the part.
-    OptFor,
-    /// Rows of the part.
-    Const,
-    /// Rows of the part.
-    Fix,
-    /// Rows of the part.
-    Fixity,
-    /// Rows of the part.
-    Method,
-    /// Rows of the part.
-    OptMethod,
-    /// Rows of the part.
-    Suffix,
-    /// Rows of the part.
-    OptNat,
-    /// Rows of the part.
-    MoreAlt,
-    /// Rows of the part.
-    MoreSemi,
-    /// Rows of the part.
-    MoreSeq,
-    /// Rows of the part.
-    Item,
-    /// Rows of the part.
-    RuleRest,
-    /// Rows of the part.
-    CallRest,
-    /// Rows of the part.
-    CallArgs,
-    /// Rows of the part.
-    CallIdent,
-    /// Rows of the part.
-    Sections,
-    /// Rows of the part.
-    SectionIdent,
-    /// Rows of the part.
-    MatchRest,
-    /// Rows of the part.
-    SubjectName,
-    /// Rows of the part.
-    Cases,
-    /// Rows of the part.
-    MoreCases,
-    /// Rows of the part.
-    Pat,
-    /// Rows of the part.
-    PatIdent,
-    /// Rows of the part.
-    Cut,
-    /// Rows of the part.
-    MorePats,
-    /// Rows of the part.
-    Typed,
-    /// Rows of the part.
-    MoreTvars,
-    /// Rows of the part.
-    MoreConsts,
-    /// Rows of the part.
-    JudgmentForm,
-    /// Rows of the part.
-    Axiomatized,
-    /// Rows of the part.
-    AxiomConsts,
-    /// Rows of the part.
-    Axiom,
-    /// Rows of the part.
-    MoreAxioms,
-    /// Rows of the part.
-    Parts,
-    /// Rows of the part.
-    UsesDeclares,
-    /// Rows of the part.
-    MethodsDeclares,
-    /// Rows of the part.
-    MethodsUses,
-    /// Rows of the part.
-    MethodsAlone,
-    /// Rows of the part.
-    UsesAlone,
-    /// Rows of the part.
-    DeclaresAlone,
-    /// Rows of the part.
-    Body,
-    /// Rows of the part.
-    Statement,
-    /// Rows of the part.
-    StatementName,
-    /// Rows of the part.
-    Stated,
-    /// Rows of the part.
-    OptAssumes,
-    /// Rows of the part.
-    MoreEquations,
-    /// Rows of the part.
-    NoteName,
-    /// Rows of the part.
-    NoteEqual,
-    /// Rows of the part.
-    NoteMore,
-    /// Rows of the part.
-    Obtained,
-    /// Rows of the part.
-    ObtainedOne,
-    /// Rows of the part.
-    ObtainedMore,
-    /// Rows of the part.
-    Command,
-}
-
-/// What stands in a row: a token, or a part.
-#[derive(Clone, Copy, Debug, PartialEq, Eq)]
-pub enum Symbol {
-    /// A token of a set.
-    Word(Sort),
-    /// A part.
-    Goes(Part),
-}
-
-const W_NAME: Symbol = Symbol::Word(Sort::Name);
-
-const W_AND: Symbol = Symbol::Word(Sort::Only(Class::And));
-
-const W_OPEN: Symbol = Symbol::Word(Sort::Only(Class::Open));
-
-const W_CLOSE: Symbol = Symbol::Word(Sort::Only(Class::Close));
-
-const W_NUMERAL: Symbol = Symbol::Word(Sort::Numeral);
-
-const W_MINUS: Symbol = Symbol::Word(Sort::Only(Class::Minus));
-
-const W_COMMA: Symbol = Symbol::Word(Sort::Only(Class::Comma));
-
-const W_LEFT: Symbol = Symbol::Word(Sort::Only(Class::Left));
-
-const W_RIGHT: Symbol = Symbol::Word(Sort::Only(Class::Right));
-
-const W_OF_FACTS: Symbol = Symbol::Word(Sort::Only(Class::OfFacts));
-
-const W_THEN_FACT: Symbol = Symbol::Word(Sort::Only(Class::ThenFact));
-
-const W_OF_TERMS: Symbol = Symbol::Word(Sort::Only(Class::OfTerms));
-
-const W_WHERE: Symbol = Symbol::Word(Sort::Only(Class::Where));
-
-const W_IDENTIFIER: Symbol = Symbol::Word(Sort::Identifier);
-
-const W_EQUAL: Symbol = Symbol::Word(Sort::Only(Class::Equal));
-
-const W_TERM: Symbol = Symbol::Word(Sort::Term);
-
-const W_OTHER_NAME: Symbol = Symbol::Word(Sort::OtherName);
-
-const W_MARK: Symbol = Symbol::Word(Sort::Mark);
-
-const W_DUMMY: Symbol = Symbol::Word(Sort::Only(Class::Dummy));
-
-const W_IS: Symbol = Symbol::Word(Sort::Only(Class::Is));
-
-const W_COLON: Symbol = Symbol::Word(Sort::Only(Class::Colon));
-
-const W_NO_NAME: Symbol = Symbol::Word(Sort::NoName);
-
-const W_COLONS: Symbol = Symbol::Word(Sort::Only(Class::Colons));
-
-const W_TYPE: Symbol = Symbol::Word(Sort::Type);
-
-const W_FOR: Symbol = Symbol::Word(Sort::Only(Class::For));
-
-const W_PLAIN: Symbol = Symbol::Word(Sort::Only(Class::Plain));
-
-const W_PREFIX: Symbol = Symbol::Word(Sort::Only(Class::Prefix));
-
-const W_PRIORITY: Symbol = Symbol::Word(Sort::Priority);
-
-const W_INFIX: Symbol = Symbol::Word(Sort::Only(Class::Infix));
-
-const W_LOW: Symbol = Symbol::Word(Sort::Only(Class::Low));
-
-const W_INFIXL: Symbol = Symbol::Word(Sort::Only(Class::Infixl));
-
-const W_INFIXR: Symbol = Symbol::Word(Sort::Only(Class::Infixr));
-
-const W_BINDER: Symbol = Symbol::Word(Sort::Only(Class::Binder));
-
-const W_BINDING: Symbol = Symbol::Word(Sort::Binding);
-
-const W_QUESTION: Symbol = Symbol::Word(Sort::Only(Class::Question));
-
-const W_PLUS: Symbol = Symbol::Word(Sort::Only(Class::Plus));
-
-const W_BAR: Symbol = Symbol::Word(Sort::Only(Class::Bar));
-
-const W_SEMICOLON: Symbol = Symbol::Word(Sort::Only(Class::Semicolon));
-
-const W_RULE: Symbol = Symbol::Word(Sort::Only(Class::Rule));
-
-const W_MATCH: Symbol = Symbol::Word(Sort::Only(Class::Match));
-
-const W_CALL_NAME: Symbol = Symbol::Word(Sort::CallName);
-
-const W_NO_IDENT: Symbol = Symbol::Word(Sort::NoIdent);
-
-const W_LONG: Symbol = Symbol::Word(Sort::Only(Class::Long));
-
-const W_PREMISES: Symbol = Symbol::Word(Sort::Only(Class::Premises));
-
-const W_CONCLUSION: Symbol = Symbol::Word(Sort::Only(Class::Conclusion));
-
-const W_SUBJECT_NAME: Symbol = Symbol::Word(Sort::SubjectName);
-
-const W_IN: Symbol = Symbol::Word(Sort::Only(Class::In));
-
-const W_ARROW: Symbol = Symbol::Word(Sort::Only(Class::Arrow));
-
-const W_INTO: Symbol = Symbol::Word(Sort::Only(Class::Into));
-
-const W_OUT_OF: Symbol = Symbol::Word(Sort::Only(Class::OutOf));
-
-const W_CASE_BAR: Symbol = Symbol::Word(Sort::Only(Class::CaseBar));
-
-const W_CUT: Symbol = Symbol::Word(Sort::Only(Class::Cut));
-
-const W_TVAR: Symbol = Symbol::Word(Sort::Only(Class::Tvar));
-
-const W_JUDGING: Symbol = Symbol::Word(Sort::Only(Class::Judging));
-
-const W_METHODS: Symbol = Symbol::Word(Sort::Only(Class::Methods));
-
-const W_USES: Symbol = Symbol::Word(Sort::Only(Class::Uses));
-
-const W_DECLARES: Symbol = Symbol::Word(Sort::Only(Class::Declares));
-
-const W_FIXES: Symbol = Symbol::Word(Sort::Only(Class::Fixes));
-
-const W_SHOWS: Symbol = Symbol::Word(Sort::Only(Class::Shows));
-
-const W_ASSUMES: Symbol = Symbol::Word(Sort::Only(Class::Assumes));
-
-const W_THEORY: Symbol = Symbol::Word(Sort::Only(Class::Theory));
-
-const W_IMPORTS: Symbol = Symbol::Word(Sort::Only(Class::Imports));
-
-const W_BEGIN: Symbol = Symbol::Word(Sort::Only(Class::Begin));
-
-const W_END: Symbol = Symbol::Word(Sort::Only(Class::End));
-
-const W_CHAPTER: Symbol = Symbol::Word(Sort::Only(Class::Chapter));
-
-const W_QUOTED: Symbol = Symbol::Word(Sort::Quoted);
-
-const W_SECTION: Symbol = Symbol::Word(Sort::Only(Class::Section));
-
-const W_SUBSECTION: Symbol = Symbol::Word(Sort::Only(Class::Subsection));
-
-const W_SUBSUBSECTION: Symbol = Symbol::Word(Sort::Only(Class::Subsubsection));
-
-const W_PARAGRAPH: Symbol = Symbol::Word(Sort::Only(Class::Paragraph));
-
-const W_SUBPARAGRAPH: Symbol = Symbol::Word(Sort::Only(Class::Subparagraph));
-
-const W_PROSE: Symbol = Symbol::Word(Sort::Only(Class::Prose));
-
-const W_TXT: Symbol = Symbol::Word(Sort::Only(Class::Txt));
-
-const W_TYPEDECL: Symbol = Symbol::Word(Sort::Only(Class::Typedecl));
-
-const W_CONSTS: Symbol = Symbol::Word(Sort::Only(Class::Consts));
-
-const W_JUDGMENT: Symbol = Symbol::Word(Sort::Only(Class::Judgment));
-
-const W_AXIOMATIZATION: Symbol = Symbol::Word(Sort::Only(Class::Axiomatization));
-
-const W_LEMMAS: Symbol = Symbol::Word(Sort::Only(Class::Lemmas));
-
-const W_DECLARE: Symbol = Symbol::Word(Sort::Only(Class::Declare));
-
-const W_NAMED_THEOREMS: Symbol = Symbol::Word(Sort::Only(Class::NamedTheorems));
-
-const W_METHOD: Symbol = Symbol::Word(Sort::Only(Class::Method));
-
-const W_LEMMA: Symbol = Symbol::Word(Sort::Only(Class::Lemma));
-
-const W_THEOREM: Symbol = Symbol::Word(Sort::Only(Class::Theorem));
-
-const W_COROLLARY: Symbol = Symbol::Word(Sort::Only(Class::Corollary));
-
-const W_PROPOSITION: Symbol = Symbol::Word(Sort::Only(Class::Proposition));
-
-const W_FIX: Symbol = Symbol::Word(Sort::Only(Class::Fix));
-
-const W_ASSUME: Symbol = Symbol::Word(Sort::Only(Class::Assume));
-
-const W_PRESUME: Symbol = Symbol::Word(Sort::Only(Class::Presume));
-
-const W_DEFINE: Symbol = Symbol::Word(Sort::Only(Class::Define));
-
-const W_NOTE: Symbol = Symbol::Word(Sort::Only(Class::Note));
-
-const W_LET: Symbol = Symbol::Word(Sort::Only(Class::Let));
-
-const W_LEFT_BRACE: Symbol = Symbol::Word(Sort::Only(Class::LeftBrace));
-
-const W_RIGHT_BRACE: Symbol = Symbol::Word(Sort::Only(Class::RightBrace));
-
-const W_NEXT: Symbol = Symbol::Word(Sort::Only(Class::Next));
-
-const W_THEN: Symbol = Symbol::Word(Sort::Only(Class::Then));
-
-const W_FROM: Symbol = Symbol::Word(Sort::Only(Class::From));
-
-const W_WITH: Symbol = Symbol::Word(Sort::Only(Class::With));
-
-const W_HAVE: Symbol = Symbol::Word(Sort::Only(Class::Have));
-
-const W_SHOW: Symbol = Symbol::Word(Sort::Only(Class::Show));
-
-const W_HENCE: Symbol = Symbol::Word(Sort::Only(Class::Hence));
-
-const W_THUS: Symbol = Symbol::Word(Sort::Only(Class::Thus));
-
-const W_OBTAIN: Symbol = Symbol::Word(Sort::Only(Class::Obtain));
-
-const W_ALSO: Symbol = Symbol::Word(Sort::Only(Class::Also));
-
-const W_MOREOVER: Symbol = Symbol::Word(Sort::Only(Class::Moreover));
-
-const W_FINALLY: Symbol = Symbol::Word(Sort::Only(Class::Finally));
-
-const W_ULTIMATELY: Symbol = Symbol::Word(Sort::Only(Class::Ultimately));
-
-const W_APPLY: Symbol = Symbol::Word(Sort::Only(Class::Apply));
-
-const W_USING: Symbol = Symbol::Word(Sort::Only(Class::Using));
-
-const W_DEFER: Symbol = Symbol::Word(Sort::Only(Class::Defer));
-
-const W_PREFER: Symbol = Symbol::Word(Sort::Only(Class::Prefer));
-
-const W_BACK: Symbol = Symbol::Word(Sort::Only(Class::Back));
-
-const W_PROOF: Symbol = Symbol::Word(Sort::Only(Class::Proof));
-
-const W_QED: Symbol = Symbol::Word(Sort::Only(Class::Qed));
-
-const W_BY: Symbol = Symbol::Word(Sort::Only(Class::By));
-
-const W_DOT: Symbol = Symbol::Word(Sort::Only(Class::Dot));
-
-const W_DOTS: Symbol = Symbol::Word(Sort::Only(Class::Dots));
-
-const W_DONE: Symbol = Symbol::Word(Sort::Only(Class::Done));
-
-const W_OOPS: Symbol = Symbol::Word(Sort::Only(Class::Oops));
-
-const FACT: Symbol = Symbol::Goes(Part::Fact);
-
-const FACTS: Symbol = Symbol::Goes(Part::Facts);
-
-const MORE_FACTS: Symbol = Symbol::Goes(Part::MoreFacts);
-
-const SELS: Symbol = Symbol::Goes(Part::Sels);
-
-const SEL: Symbol = Symbol::Goes(Part::Sel);
-
-const SEL_TO: Symbol = Symbol::Goes(Part::SelTo);
-
-const MORE_SELS: Symbol = Symbol::Goes(Part::MoreSels);
-
-const OPT_ATTS: Symbol = Symbol::Goes(Part::OptAtts);
-
-const MORE_ATTS: Symbol = Symbol::Goes(Part::MoreAtts);
-
-const ATT: Symbol = Symbol::Goes(Part::Att);
-
-const OPT_MARK: Symbol = Symbol::Goes(Part::OptMark);
-
-const OF_FACTS: Symbol = Symbol::Goes(Part::OfFacts);
-
-const FACT_PLACES: Symbol = Symbol::Goes(Part::FactPlaces);
-
-const THEN_FACT: Symbol = Symbol::Goes(Part::ThenFact);
-
-const OF_TERMS: Symbol = Symbol::Goes(Part::OfTerms);
-
-const TERM_PLACES: Symbol = Symbol::Goes(Part::TermPlaces);
-
-const MORE_WHERES: Symbol = Symbol::Goes(Part::MoreWheres);
-
-const PROP: Symbol = Symbol::Goes(Part::Prop);
-
-const PATTERN: Symbol = Symbol::Goes(Part::Pattern);
-
-const TERMS: Symbol = Symbol::Goes(Part::Terms);
-
-const CLAIM: Symbol = Symbol::Goes(Part::Claim);
-
-const CLAIM_NAME: Symbol = Symbol::Goes(Part::ClaimName);
-
-const PROPS: Symbol = Symbol::Goes(Part::Props);
-
-const PROPS_NAME: Symbol = Symbol::Goes(Part::PropsName);
-
-const MORE_PROPS: Symbol = Symbol::Goes(Part::MoreProps);
-
-const LABELLED_TERM: Symbol = Symbol::Goes(Part::LabelledTerm);
-
-const TERM_NAME: Symbol = Symbol::Goes(Part::TermName);
-
-const NAMES: Symbol = Symbol::Goes(Part::Names);
-
-const IDENTS: Symbol = Symbol::Goes(Part::Idents);
-
-const OF_TYPE: Symbol = Symbol::Goes(Part::OfType);
-
-const VARS: Symbol = Symbol::Goes(Part::Vars);
-
-const MORE_VARS: Symbol = Symbol::Goes(Part::MoreVars);
-
-const OPT_FOR: Symbol = Symbol::Goes(Part::OptFor);
-
-const CONST: Symbol = Symbol::Goes(Part::Const);
-
-const FIX: Symbol = Symbol::Goes(Part::Fix);
-
-const FIXITY: Symbol = Symbol::Goes(Part::Fixity);
-
-const METHOD: Symbol = Symbol::Goes(Part::Method);
-
-const OPT_METHOD: Symbol = Symbol::Goes(Part::OptMethod);
-
-const SUFFIX: Symbol = Symbol::Goes(Part::Suffix);
-
-const OPT_NAT: Symbol = Symbol::Goes(Part::OptNat);
-
-const MORE_ALT: Symbol = Symbol::Goes(Part::MoreAlt);
-
-const MORE_SEMI: Symbol = Symbol::Goes(Part::MoreSemi);
-
-const MORE_SEQ: Symbol = Symbol::Goes(Part::MoreSeq);
-
-const ITEM: Symbol = Symbol::Goes(Part::Item);
-
-const RULE_REST: Symbol = Symbol::Goes(Part::RuleRest);
-
-const CALL_REST: Symbol = Symbol::Goes(Part::CallRest);
-
-const CALL_ARGS: Symbol = Symbol::Goes(Part::CallArgs);
-
-const CALL_IDENT: Symbol = Symbol::Goes(Part::CallIdent);
-
-const SECTIONS: Symbol = Symbol::Goes(Part::Sections);
-
-const SECTION_IDENT: Symbol = Symbol::Goes(Part::SectionIdent);
-
-const MATCH_REST: Symbol = Symbol::Goes(Part::MatchRest);
-
-const SUBJECT_NAME: Symbol = Symbol::Goes(Part::SubjectName);
-
-const CASES: Symbol = Symbol::Goes(Part::Cases);
-
-const MORE_CASES: Symbol = Symbol::Goes(Part::MoreCases);
-
-const PAT: Symbol = Symbol::Goes(Part::Pat);
-
-const PAT_IDENT: Symbol = Symbol::Goes(Part::PatIdent);
-
-const CUT: Symbol = Symbol::Goes(Part::Cut);
-
-const MORE_PATS: Symbol = Symbol::Goes(Part::MorePats);
-
-const TYPED: Symbol = Symbol::Goes(Part::Typed);
-
-const MORE_TVARS: Symbol = Symbol::Goes(Part::MoreTvars);
-
-const MORE_CONSTS: Symbol = Symbol::Goes(Part::MoreConsts);
-
-const JUDGMENT_FORM: Symbol = Symbol::Goes(Part::JudgmentForm);
-
-const AXIOMATIZED: Symbol = Symbol::Goes(Part::Axiomatized);
-
-const AXIOM_CONSTS: Symbol = Symbol::Goes(Part::AxiomConsts);
-
-const AXIOM: Symbol = Symbol::Goes(Part::Axiom);
-
-const MORE_AXIOMS: Symbol = Symbol::Goes(Part::MoreAxioms);
-
-const PARTS: Symbol = Symbol::Goes(Part::Parts);
-
-const USES_DECLARES: Symbol = Symbol::Goes(Part::UsesDeclares);
-
-const METHODS_DECLARES: Symbol = Symbol::Goes(Part::MethodsDeclares);
-
-const METHODS_USES: Symbol = Symbol::Goes(Part::MethodsUses);
-
-const METHODS_ALONE: Symbol = Symbol::Goes(Part::MethodsAlone);
-
-const USES_ALONE: Symbol = Symbol::Goes(Part::UsesAlone);
-
-const DECLARES_ALONE: Symbol = Symbol::Goes(Part::DeclaresAlone);
-
-const BODY: Symbol = Symbol::Goes(Part::Body);
-
-const STATEMENT: Symbol = Symbol::Goes(Part::Statement);
-
-const STATEMENT_NAME: Symbol = Symbol::Goes(Part::StatementName);
-
-const STATED: Symbol = Symbol::Goes(Part::Stated);
-
-const OPT_ASSUMES: Symbol = Symbol::Goes(Part::OptAssumes);
-
-const MORE_EQUATIONS: Symbol = Symbol::Goes(Part::MoreEquations);
-
-const NOTE_NAME: Symbol = Symbol::Goes(Part::NoteName);
-
-const NOTE_EQUAL: Symbol = Symbol::Goes(Part::NoteEqual);
-
-const NOTE_MORE: Symbol = Symbol::Goes(Part::NoteMore);
-
-const OBTAINED: Symbol = Symbol::Goes(Part::Obtained);
-
-const OBTAINED_ONE: Symbol = Symbol::Goes(Part::ObtainedOne);
-
-const OBTAINED_MORE: Symbol = Symbol::Goes(Part::ObtainedMore);
-
-pub const FACT_ROWS: &[&[Symbol]] = &[&[W_NAME, SELS, OPT_ATTS]];
-
-pub const FACTS_ROWS: &[&[Symbol]] = &[&[W_NAME, SELS, OPT_ATTS, MORE_FACTS]];
-
-pub const MORE_FACTS_ROWS: &[&[Symbol]] = &[
+use crate::part::ATT;
+use crate::part::AXIOM;
+use crate::part::AXIOM_CONSTS;
+use crate::part::AXIOMATIZED;
+use crate::part::BODY;
+use crate::part::CALL_ARGS;
+use crate::part::CALL_IDENT;
+use crate::part::CALL_REST;
+use crate::part::CASES;
+use crate::part::CLAIM;
+use crate::part::CLAIM_NAME;
+use crate::part::CONST;
+use crate::part::CUT;
+use crate::part::DECLARES_ALONE;
+use crate::part::FACT;
+use crate::part::FACT_PLACES;
+use crate::part::FACTS;
+use crate::part::FIX;
+use crate::part::FIXITY;
+use crate::part::IDENTS;
+use crate::part::ITEM;
+use crate::part::JUDGMENT_FORM;
+use crate::part::LABELLED_TERM;
+use crate::part::MATCH_REST;
+use crate::part::METHOD;
+use crate::part::METHODS_ALONE;
+use crate::part::METHODS_DECLARES;
+use crate::part::METHODS_USES;
+use crate::part::MORE_ALT;
+use crate::part::MORE_ATTS;
+use crate::part::MORE_AXIOMS;
+use crate::part::MORE_CASES;
+use crate::part::MORE_CONSTS;
+use crate::part::MORE_EQUATIONS;
+use crate::part::MORE_FACTS;
+use crate::part::MORE_PATS;
+use crate::part::MORE_PROPS;
+use crate::part::MORE_SELS;
+use crate::part::MORE_SEMI;
+use crate::part::MORE_SEQ;
+use crate::part::MORE_TVARS;
+use crate::part::MORE_VARS;
+use crate::part::MORE_WHERES;
+use crate::part::NAMES;
+use crate::part::NOTE_EQUAL;
+use crate::part::NOTE_MORE;
+use crate::part::NOTE_NAME;
+use crate::part::OBTAINED;
+use crate::part::OBTAINED_MORE;
+use crate::part::OBTAINED_ONE;
+use crate::part::OF_FACTS;
+use crate::part::OF_TERMS;
+use crate::part::OF_TYPE;
+use crate::part::OPT_ASSUMES;
+use crate::part::OPT_ATTS;
+use crate::part::OPT_FOR;
+use crate::part::OPT_MARK;
+use crate::part::OPT_METHOD;
+use crate::part::OPT_NAT;
+use crate::part::PARTS;
+use crate::part::PAT;
+use crate::part::PAT_IDENT;
+use crate::part::PATTERN;
+use crate::part::PROP;
+use crate::part::PROPS;
+use crate::part::PROPS_NAME;
+use crate::part::Part;
+use crate::part::RULE_REST;
+use crate::part::SECTION_IDENT;
+use crate::part::SECTIONS;
+use crate::part::SEL;
+use crate::part::SEL_TO;
+use crate::part::SELS;
+use crate::part::STATED;
+use crate::part::STATEMENT;
+use crate::part::STATEMENT_NAME;
+use crate::part::SUBJECT_NAME;
+use crate::part::SUFFIX;
+use crate::part::Symbol;
+use crate::part::TERM_NAME;
+use crate::part::TERM_PLACES;
+use crate::part::TERMS;
+use crate::part::THEN_FACT;
+use crate::part::TYPED;
+use crate::part::USES_ALONE;
+use crate::part::USES_DECLARES;
+use crate::part::VARS;
+use crate::part::W_ALSO;
+use crate::part::W_AND;
+use crate::part::W_APPLY;
+use crate::part::W_ARROW;
+use crate::part::W_ASSUME;
+use crate::part::W_ASSUMES;
+use crate::part::W_AXIOMATIZATION;
+use crate::part::W_BACK;
+use crate::part::W_BAR;
+use crate::part::W_BEGIN;
+use crate::part::W_BINDER;
+use crate::part::W_BINDING;
+use crate::part::W_BY;
+use crate::part::W_CALL_NAME;
+use crate::part::W_CASE_BAR;
+use crate::part::W_CHAPTER;
+use crate::part::W_CLOSE;
+use crate::part::W_COLON;
+use crate::part::W_COLONS;
+use crate::part::W_COMMA;
+use crate::part::W_CONCLUSION;
+use crate::part::W_CONSTS;
+use crate::part::W_COROLLARY;
+use crate::part::W_CUT;
+use crate::part::W_DECLARE;
+use crate::part::W_DECLARES;
+use crate::part::W_DEFER;
+use crate::part::W_DEFINE;
+use crate::part::W_DONE;
+use crate::part::W_DOT;
+use crate::part::W_DOTS;
+use crate::part::W_DUMMY;
+use crate::part::W_END;
+use crate::part::W_EQUAL;
+use crate::part::W_FINALLY;
+use crate::part::W_FIX;
+use crate::part::W_FIXES;
+use crate::part::W_FOR;
+use crate::part::W_FROM;
+use crate::part::W_HAVE;
+use crate::part::W_HENCE;
+use crate::part::W_IDENTIFIER;
+use crate::part::W_IMPORTS;
+use crate::part::W_IN;
+use crate::part::W_INFIX;
+use crate::part::W_INFIXL;
+use crate::part::W_INFIXR;
+use crate::part::W_INTO;
+use crate::part::W_IS;
+use crate::part::W_JUDGING;
+use crate::part::W_JUDGMENT;
+use crate::part::W_LEFT;
+use crate::part::W_LEFT_BRACE;
+use crate::part::W_LEMMA;
+use crate::part::W_LEMMAS;
+use crate::part::W_LET;
+use crate::part::W_LONG;
+use crate::part::W_LOW;
+use crate::part::W_MARK;
+use crate::part::W_MATCH;
+use crate::part::W_METHOD;
+use crate::part::W_METHODS;
+use crate::part::W_MINUS;
+use crate::part::W_MOREOVER;
+use crate::part::W_NAME;
+use crate::part::W_NAMED_THEOREMS;
+use crate::part::W_NEXT;
+use crate::part::W_NO_IDENT;
+use crate::part::W_NO_NAME;
+use crate::part::W_NOTE;
+use crate::part::W_NUMERAL;
+use crate::part::W_OBTAIN;
+use crate::part::W_OF_FACTS;
+use crate::part::W_OF_TERMS;
+use crate::part::W_OOPS;
+use crate::part::W_OPEN;
+use crate::part::W_OTHER_NAME;
+use crate::part::W_OUT_OF;
+use crate::part::W_PARAGRAPH;
+use crate::part::W_PLAIN;
+use crate::part::W_PLUS;
+use crate::part::W_PREFER;
+use crate::part::W_PREFIX;
+use crate::part::W_PREMISES;
+use crate::part::W_PRESUME;
+use crate::part::W_PRIORITY;
+use crate::part::W_PROOF;
+use crate::part::W_PROPOSITION;
+use crate::part::W_PROSE;
+use crate::part::W_QED;
+use crate::part::W_QUESTION;
+use crate::part::W_QUOTED;
+use crate::part::W_RIGHT;
+use crate::part::W_RIGHT_BRACE;
+use crate::part::W_RULE;
+use crate::part::W_SECTION;
+use crate::part::W_SEMICOLON;
+use crate::part::W_SHOW;
+use crate::part::W_SHOWS;
+use crate::part::W_SUBJECT_NAME;
+use crate::part::W_SUBPARAGRAPH;
+use crate::part::W_SUBSECTION;
+use crate::part::W_SUBSUBSECTION;
+use crate::part::W_TERM;
+use crate::part::W_THEN;
+use crate::part::W_THEN_FACT;
+use crate::part::W_THEOREM;
+use crate::part::W_THEORY;
+use crate::part::W_THUS;
+use crate::part::W_TVAR;
+use crate::part::W_TXT;
+use crate::part::W_TYPE;
+use crate::part::W_TYPEDECL;
+use crate::part::W_ULTIMATELY;
+use crate::part::W_USES;
+use crate::part::W_USING;
+use crate::part::W_WHERE;
+use crate::part::W_WITH;
+
+const FACT_ROWS: &[&[Symbol]] = &[&[W_NAME, SELS, OPT_ATTS]];
+
+const FACTS_ROWS: &[&[Symbol]] = &[&[W_NAME, SELS, OPT_ATTS, MORE_FACTS]];
+
+const MORE_FACTS_ROWS: &[&[Symbol]] = &[
     &[],
     &[W_AND, FACT, MORE_FACTS],
     &[W_NAME, SELS, OPT_ATTS, MORE_FACTS],
 ];
 
-pub const SELS_ROWS: &[&[Symbol]] = &[&[], &[W_OPEN, SEL, MORE_SELS, W_CLOSE]];
+const SELS_ROWS: &[&[Symbol]] = &[&[], &[W_OPEN, SEL, MORE_SELS, W_CLOSE]];
 
-pub const SEL_ROWS: &[&[Symbol]] = &[&[W_NUMERAL, SEL_TO]];
+const SEL_ROWS: &[&[Symbol]] = &[&[W_NUMERAL, SEL_TO]];
 
-pub const SEL_TO_ROWS: &[&[Symbol]] = &[&[], &[W_MINUS, W_NUMERAL]];
+const SEL_TO_ROWS: &[&[Symbol]] = &[&[], &[W_MINUS, W_NUMERAL]];
 
-pub const MORE_SELS_ROWS: &[&[Symbol]] = &[&[], &[W_COMMA, SEL, MORE_SELS]];
+const MORE_SELS_ROWS: &[&[Symbol]] = &[&[], &[W_COMMA, SEL, MORE_SELS]];
 
-pub const OPT_ATTS_ROWS: &[&[Symbol]] = &[&[], &[W_LEFT, ATT, MORE_ATTS, W_RIGHT]];
+const OPT_ATTS_ROWS: &[&[Symbol]] = &[&[], &[W_LEFT, ATT, MORE_ATTS, W_RIGHT]];
 
-pub const MORE_ATTS_ROWS: &[&[Symbol]] = &[&[], &[W_COMMA, ATT, MORE_ATTS]];
+const MORE_ATTS_ROWS: &[&[Symbol]] = &[&[], &[W_COMMA, ATT, MORE_ATTS]];
 
-pub const ATT_ROWS: &[&[Symbol]] = &[
+const ATT_ROWS: &[&[Symbol]] = &[
     &[W_OF_FACTS, OF_FACTS],
     &[W_THEN_FACT, THEN_FACT],
     &[W_OF_TERMS, OF_TERMS],
@@ -627,57 +239,54 @@ pub const ATT_ROWS: &[&[Symbol]] = &[
     &[W_OTHER_NAME, OPT_MARK],
 ];
 
-pub const OPT_MARK_ROWS: &[&[Symbol]] = &[&[], &[W_MARK]];
+const OPT_MARK_ROWS: &[&[Symbol]] = &[&[], &[W_MARK]];
 
-pub const OF_FACTS_ROWS: &[&[Symbol]] = &[
+const OF_FACTS_ROWS: &[&[Symbol]] = &[
     &[],
     &[W_MARK],
     &[W_NAME, SELS, OPT_ATTS, FACT_PLACES],
     &[W_DUMMY, FACT_PLACES],
 ];
 
-pub const FACT_PLACES_ROWS: &[&[Symbol]] = &[
+const FACT_PLACES_ROWS: &[&[Symbol]] = &[
     &[],
     &[W_NAME, SELS, OPT_ATTS, FACT_PLACES],
     &[W_DUMMY, FACT_PLACES],
 ];
 
-pub const THEN_FACT_ROWS: &[&[Symbol]] = &[&[], &[W_MARK], &[W_NAME, SELS, OPT_ATTS]];
+const THEN_FACT_ROWS: &[&[Symbol]] = &[&[], &[W_MARK], &[W_NAME, SELS, OPT_ATTS]];
 
-pub const OF_TERMS_ROWS: &[&[Symbol]] = &[
+const OF_TERMS_ROWS: &[&[Symbol]] = &[
     &[],
     &[W_MARK],
     &[W_TERM, TERM_PLACES],
     &[W_DUMMY, TERM_PLACES],
 ];
 
-pub const TERM_PLACES_ROWS: &[&[Symbol]] = &[&[], &[W_TERM, TERM_PLACES], &[W_DUMMY, TERM_PLACES]];
+const TERM_PLACES_ROWS: &[&[Symbol]] = &[&[], &[W_TERM, TERM_PLACES], &[W_DUMMY, TERM_PLACES]];
 
-pub const MORE_WHERES_ROWS: &[&[Symbol]] = &[
-    &[],
-    &[W_AND, W_IDENTIFIER, W_EQUAL, W_TERM, MORE_WHERES],
-];
+const MORE_WHERES_ROWS: &[&[Symbol]] = &[&[], &[W_AND, W_IDENTIFIER, W_EQUAL, W_TERM, MORE_WHERES]];
 
-pub const PROP_ROWS: &[&[Symbol]] = &[&[W_TERM, PATTERN]];
+const PROP_ROWS: &[&[Symbol]] = &[&[W_TERM, PATTERN]];
 
-pub const PATTERN_ROWS: &[&[Symbol]] = &[&[], &[W_OPEN, W_IS, W_TERM, TERMS, W_CLOSE]];
+const PATTERN_ROWS: &[&[Symbol]] = &[&[], &[W_OPEN, W_IS, W_TERM, TERMS, W_CLOSE]];
 
-pub const TERMS_ROWS: &[&[Symbol]] = &[&[], &[W_TERM, TERMS]];
+const TERMS_ROWS: &[&[Symbol]] = &[&[], &[W_TERM, TERMS]];
 
-pub const CLAIM_ROWS: &[&[Symbol]] = &[
+const CLAIM_ROWS: &[&[Symbol]] = &[
     &[W_NAME, CLAIM_NAME],
     &[W_LEFT, ATT, MORE_ATTS, W_RIGHT, W_COLON, PROP],
     &[W_NO_NAME, PATTERN],
 ];
 
-pub const CLAIM_NAME_ROWS: &[&[Symbol]] = &[
+const CLAIM_NAME_ROWS: &[&[Symbol]] = &[
     &[],
     &[W_COLON, PROP],
     &[W_LEFT, ATT, MORE_ATTS, W_RIGHT, W_COLON, PROP],
     &[W_OPEN, W_IS, W_TERM, TERMS, W_CLOSE],
 ];
 
-pub const PROPS_ROWS: &[&[Symbol]] = &[
+const PROPS_ROWS: &[&[Symbol]] = &[
     &[W_NAME, PROPS_NAME],
     &[
         W_LEFT, ATT, MORE_ATTS, W_RIGHT, W_COLON, W_TERM, PATTERN, MORE_PROPS,
@@ -685,7 +294,7 @@ pub const PROPS_ROWS: &[&[Symbol]] = &[
     &[W_NO_NAME, PATTERN, MORE_PROPS],
 ];
 
-pub const PROPS_NAME_ROWS: &[&[Symbol]] = &[
+const PROPS_NAME_ROWS: &[&[Symbol]] = &[
     &[],
     &[W_COLON, W_TERM, PATTERN, MORE_PROPS],
     &[
@@ -696,37 +305,37 @@ pub const PROPS_NAME_ROWS: &[&[Symbol]] = &[
     &[W_AND, PROPS],
 ];
 
-pub const MORE_PROPS_ROWS: &[&[Symbol]] = &[&[], &[W_TERM, PATTERN, MORE_PROPS], &[W_AND, PROPS]];
+const MORE_PROPS_ROWS: &[&[Symbol]] = &[&[], &[W_TERM, PATTERN, MORE_PROPS], &[W_AND, PROPS]];
 
-pub const LABELLED_TERM_ROWS: &[&[Symbol]] = &[
+const LABELLED_TERM_ROWS: &[&[Symbol]] = &[
     &[W_NAME, TERM_NAME],
     &[W_LEFT, ATT, MORE_ATTS, W_RIGHT, W_COLON, W_TERM],
     &[W_NO_NAME],
 ];
 
-pub const TERM_NAME_ROWS: &[&[Symbol]] = &[
+const TERM_NAME_ROWS: &[&[Symbol]] = &[
     &[],
     &[W_COLON, W_TERM],
     &[W_LEFT, ATT, MORE_ATTS, W_RIGHT, W_COLON, W_TERM],
 ];
 
-pub const NAMES_ROWS: &[&[Symbol]] = &[&[], &[W_NAME, NAMES]];
+const NAMES_ROWS: &[&[Symbol]] = &[&[], &[W_NAME, NAMES]];
 
-pub const IDENTS_ROWS: &[&[Symbol]] = &[&[], &[W_IDENTIFIER, IDENTS]];
+const IDENTS_ROWS: &[&[Symbol]] = &[&[], &[W_IDENTIFIER, IDENTS]];
 
-pub const OF_TYPE_ROWS: &[&[Symbol]] = &[&[], &[W_COLONS, W_TYPE]];
+const OF_TYPE_ROWS: &[&[Symbol]] = &[&[], &[W_COLONS, W_TYPE]];
 
-pub const VARS_ROWS: &[&[Symbol]] = &[&[W_IDENTIFIER, IDENTS, OF_TYPE, MORE_VARS]];
+const VARS_ROWS: &[&[Symbol]] = &[&[W_IDENTIFIER, IDENTS, OF_TYPE, MORE_VARS]];
 
-pub const MORE_VARS_ROWS: &[&[Symbol]] = &[&[], &[W_AND, W_IDENTIFIER, IDENTS, OF_TYPE, MORE_VARS]];
+const MORE_VARS_ROWS: &[&[Symbol]] = &[&[], &[W_AND, W_IDENTIFIER, IDENTS, OF_TYPE, MORE_VARS]];
 
-pub const OPT_FOR_ROWS: &[&[Symbol]] = &[&[], &[W_FOR, VARS]];
+const OPT_FOR_ROWS: &[&[Symbol]] = &[&[], &[W_FOR, VARS]];
 
-pub const CONST_ROWS: &[&[Symbol]] = &[&[W_IDENTIFIER, W_COLONS, W_TYPE, FIX]];
+const CONST_ROWS: &[&[Symbol]] = &[&[W_IDENTIFIER, W_COLONS, W_TYPE, FIX]];
 
-pub const FIX_ROWS: &[&[Symbol]] = &[&[], &[W_OPEN, FIXITY, W_CLOSE]];
+const FIX_ROWS: &[&[Symbol]] = &[&[], &[W_OPEN, FIXITY, W_CLOSE]];
 
-pub const FIXITY_ROWS: &[&[Symbol]] = &[
+const FIXITY_ROWS: &[&[Symbol]] = &[
     &[W_PLAIN],
     &[W_PREFIX, W_LEFT, W_PRIORITY, W_RIGHT, W_PRIORITY],
     &[W_INFIX, W_PLAIN, W_LOW],
@@ -735,30 +344,30 @@ pub const FIXITY_ROWS: &[&[Symbol]] = &[
     &[W_BINDER, W_BINDING, W_PRIORITY],
 ];
 
-pub const METHOD_ROWS: &[&[Symbol]] = &[
+const METHOD_ROWS: &[&[Symbol]] = &[
     &[W_NAME, SUFFIX],
     &[W_MINUS, SUFFIX],
     &[W_OPEN, ITEM, MORE_SEQ, MORE_SEMI, MORE_ALT, W_CLOSE, SUFFIX],
 ];
 
-pub const OPT_METHOD_ROWS: &[&[Symbol]] = &[
+const OPT_METHOD_ROWS: &[&[Symbol]] = &[
     &[],
     &[W_NAME, SUFFIX],
     &[W_MINUS, SUFFIX],
     &[W_OPEN, ITEM, MORE_SEQ, MORE_SEMI, MORE_ALT, W_CLOSE, SUFFIX],
 ];
 
-pub const SUFFIX_ROWS: &[&[Symbol]] = &[&[], &[W_QUESTION], &[W_PLUS], &[W_LEFT, OPT_NAT, W_RIGHT]];
+const SUFFIX_ROWS: &[&[Symbol]] = &[&[], &[W_QUESTION], &[W_PLUS], &[W_LEFT, OPT_NAT, W_RIGHT]];
 
-pub const OPT_NAT_ROWS: &[&[Symbol]] = &[&[], &[W_NUMERAL]];
+const OPT_NAT_ROWS: &[&[Symbol]] = &[&[], &[W_NUMERAL]];
 
-pub const MORE_ALT_ROWS: &[&[Symbol]] = &[&[], &[W_BAR, ITEM, MORE_SEQ, MORE_SEMI, MORE_ALT]];
+const MORE_ALT_ROWS: &[&[Symbol]] = &[&[], &[W_BAR, ITEM, MORE_SEQ, MORE_SEMI, MORE_ALT]];
 
-pub const MORE_SEMI_ROWS: &[&[Symbol]] = &[&[], &[W_SEMICOLON, ITEM, MORE_SEQ, MORE_SEMI]];
+const MORE_SEMI_ROWS: &[&[Symbol]] = &[&[], &[W_SEMICOLON, ITEM, MORE_SEQ, MORE_SEMI]];
 
-pub const MORE_SEQ_ROWS: &[&[Symbol]] = &[&[], &[W_COMMA, ITEM, MORE_SEQ]];
+const MORE_SEQ_ROWS: &[&[Symbol]] = &[&[], &[W_COMMA, ITEM, MORE_SEQ]];
 
-pub const ITEM_ROWS: &[&[Symbol]] = &[
+const ITEM_ROWS: &[&[Symbol]] = &[
     &[W_RULE, RULE_REST],
     &[W_MATCH, MATCH_REST],
     &[W_CALL_NAME, CALL_REST],
@@ -766,7 +375,7 @@ pub const ITEM_ROWS: &[&[Symbol]] = &[
     &[W_OPEN, ITEM, MORE_SEQ, MORE_SEMI, MORE_ALT, W_CLOSE, SUFFIX],
 ];
 
-pub const RULE_REST_ROWS: &[&[Symbol]] = &[
+const RULE_REST_ROWS: &[&[Symbol]] = &[
     &[],
     &[W_QUESTION],
     &[W_PLUS],
@@ -774,7 +383,7 @@ pub const RULE_REST_ROWS: &[&[Symbol]] = &[
     &[W_NAME, SELS, OPT_ATTS, MORE_FACTS],
 ];
 
-pub const CALL_REST_ROWS: &[&[Symbol]] = &[
+const CALL_REST_ROWS: &[&[Symbol]] = &[
     &[],
     &[W_QUESTION],
     &[W_PLUS],
@@ -786,7 +395,7 @@ pub const CALL_REST_ROWS: &[&[Symbol]] = &[
     ],
 ];
 
-pub const CALL_ARGS_ROWS: &[&[Symbol]] = &[
+const CALL_ARGS_ROWS: &[&[Symbol]] = &[
     &[],
     &[W_IDENTIFIER, CALL_IDENT],
     &[W_NO_IDENT, CALL_ARGS],
@@ -795,7 +404,7 @@ pub const CALL_ARGS_ROWS: &[&[Symbol]] = &[
     ],
 ];
 
-pub const CALL_IDENT_ROWS: &[&[Symbol]] = &[
+const CALL_IDENT_ROWS: &[&[Symbol]] = &[
     &[],
     &[W_COLON, FACT, SECTIONS],
     &[W_IDENTIFIER, CALL_IDENT],
@@ -805,14 +414,14 @@ pub const CALL_IDENT_ROWS: &[&[Symbol]] = &[
     ],
 ];
 
-pub const SECTIONS_ROWS: &[&[Symbol]] = &[
+const SECTIONS_ROWS: &[&[Symbol]] = &[
     &[],
     &[W_AND, FACT, SECTIONS],
     &[W_IDENTIFIER, SECTION_IDENT],
     &[W_LONG, SELS, OPT_ATTS, SECTIONS],
 ];
 
-pub const SECTION_IDENT_ROWS: &[&[Symbol]] = &[
+const SECTION_IDENT_ROWS: &[&[Symbol]] = &[
     &[],
     &[W_COLON, FACT, SECTIONS],
     &[W_OPEN, SEL, MORE_SELS, W_CLOSE, OPT_ATTS, SECTIONS],
@@ -822,7 +431,7 @@ pub const SECTION_IDENT_ROWS: &[&[Symbol]] = &[
     &[W_LONG, SELS, OPT_ATTS, SECTIONS],
 ];
 
-pub const MATCH_REST_ROWS: &[&[Symbol]] = &[
+const MATCH_REST_ROWS: &[&[Symbol]] = &[
     &[],
     &[W_QUESTION],
     &[W_PLUS],
@@ -833,7 +442,7 @@ pub const MATCH_REST_ROWS: &[&[Symbol]] = &[
     &[W_SUBJECT_NAME, SELS, OPT_ATTS, MORE_FACTS, CASES],
 ];
 
-pub const SUBJECT_NAME_ROWS: &[&[Symbol]] = &[
+const SUBJECT_NAME_ROWS: &[&[Symbol]] = &[
     &[],
     &[W_OPEN, SEL, MORE_SELS, W_CLOSE, OPT_ATTS, MORE_FACTS],
     &[W_LEFT, ATT, MORE_ATTS, W_RIGHT, MORE_FACTS],
@@ -841,12 +450,12 @@ pub const SUBJECT_NAME_ROWS: &[&[Symbol]] = &[
     &[W_NAME, SELS, OPT_ATTS, MORE_FACTS],
 ];
 
-pub const CASES_ROWS: &[&[Symbol]] = &[&[
+const CASES_ROWS: &[&[Symbol]] = &[&[
     W_IN, PAT, MORE_PATS, OPT_FOR, W_ARROW, W_INTO, ITEM, MORE_SEQ, MORE_SEMI, MORE_ALT, W_OUT_OF,
     MORE_CASES,
 ]];
 
-pub const MORE_CASES_ROWS: &[&[Symbol]] = &[
+const MORE_CASES_ROWS: &[&[Symbol]] = &[
     &[],
     &[
         W_CASE_BAR, PAT, MORE_PATS, OPT_FOR, W_ARROW, W_INTO, ITEM, MORE_SEQ, MORE_SEMI, MORE_ALT,
@@ -854,92 +463,86 @@ pub const MORE_CASES_ROWS: &[&[Symbol]] = &[
     ],
 ];
 
-pub const PAT_ROWS: &[&[Symbol]] = &[&[W_IDENTIFIER, PAT_IDENT], &[W_NO_IDENT, CUT]];
+const PAT_ROWS: &[&[Symbol]] = &[&[W_IDENTIFIER, PAT_IDENT], &[W_NO_IDENT, CUT]];
 
-pub const PAT_IDENT_ROWS: &[&[Symbol]] = &[
+const PAT_IDENT_ROWS: &[&[Symbol]] = &[
     &[],
     &[W_COLON, W_TERM, CUT],
     &[W_OPEN, W_CUT, OPT_NAT, W_CLOSE],
 ];
 
-pub const CUT_ROWS: &[&[Symbol]] = &[&[], &[W_OPEN, W_CUT, OPT_NAT, W_CLOSE]];
+const CUT_ROWS: &[&[Symbol]] = &[&[], &[W_OPEN, W_CUT, OPT_NAT, W_CLOSE]];
 
-pub const MORE_PATS_ROWS: &[&[Symbol]] = &[&[], &[W_AND, PAT, MORE_PATS]];
+const MORE_PATS_ROWS: &[&[Symbol]] = &[&[], &[W_AND, PAT, MORE_PATS]];
 
-pub const TYPED_ROWS: &[&[Symbol]] = &[
+const TYPED_ROWS: &[&[Symbol]] = &[
     &[W_IDENTIFIER],
     &[W_TVAR, W_IDENTIFIER],
     &[W_OPEN, W_TVAR, MORE_TVARS, W_CLOSE, W_IDENTIFIER],
 ];
 
-pub const MORE_TVARS_ROWS: &[&[Symbol]] = &[&[], &[W_COMMA, W_TVAR, MORE_TVARS]];
+const MORE_TVARS_ROWS: &[&[Symbol]] = &[&[], &[W_COMMA, W_TVAR, MORE_TVARS]];
 
-pub const MORE_CONSTS_ROWS: &[&[Symbol]] = &[
-    &[],
-    &[W_IDENTIFIER, W_COLONS, W_TYPE, FIX, MORE_CONSTS],
-];
+const MORE_CONSTS_ROWS: &[&[Symbol]] = &[&[], &[W_IDENTIFIER, W_COLONS, W_TYPE, FIX, MORE_CONSTS]];
 
-pub const JUDGMENT_FORM_ROWS: &[&[Symbol]] = &[&[], &[W_OPEN, W_JUDGING, W_PRIORITY, W_CLOSE]];
+const JUDGMENT_FORM_ROWS: &[&[Symbol]] = &[&[], &[W_OPEN, W_JUDGING, W_PRIORITY, W_CLOSE]];
 
-pub const AXIOMATIZED_ROWS: &[&[Symbol]] = &[
+const AXIOMATIZED_ROWS: &[&[Symbol]] = &[
     &[],
     &[W_IDENTIFIER, W_COLONS, W_TYPE, FIX, AXIOM_CONSTS],
     &[W_WHERE, AXIOM, MORE_AXIOMS],
 ];
 
-pub const AXIOM_CONSTS_ROWS: &[&[Symbol]] = &[
+const AXIOM_CONSTS_ROWS: &[&[Symbol]] = &[
     &[],
     &[W_AND, W_IDENTIFIER, W_COLONS, W_TYPE, FIX, AXIOM_CONSTS],
     &[W_WHERE, AXIOM, MORE_AXIOMS],
 ];
 
-pub const AXIOM_ROWS: &[&[Symbol]] = &[&[W_NAME, OPT_ATTS, W_COLON, W_TERM]];
+const AXIOM_ROWS: &[&[Symbol]] = &[&[W_NAME, OPT_ATTS, W_COLON, W_TERM]];
 
-pub const MORE_AXIOMS_ROWS: &[&[Symbol]] = &[&[], &[W_AND, AXIOM, MORE_AXIOMS]];
+const MORE_AXIOMS_ROWS: &[&[Symbol]] = &[&[], &[W_AND, AXIOM, MORE_AXIOMS]];
 
-pub const PARTS_ROWS: &[&[Symbol]] = &[
+const PARTS_ROWS: &[&[Symbol]] = &[
     &[W_METHODS, W_IDENTIFIER, IDENTS, USES_DECLARES],
     &[W_USES, W_IDENTIFIER, IDENTS, METHODS_DECLARES],
     &[W_DECLARES, W_IDENTIFIER, IDENTS, METHODS_USES],
     &[W_EQUAL, METHOD],
 ];
 
-pub const USES_DECLARES_ROWS: &[&[Symbol]] = &[
+const USES_DECLARES_ROWS: &[&[Symbol]] = &[
     &[W_USES, W_IDENTIFIER, IDENTS, DECLARES_ALONE],
     &[W_DECLARES, W_IDENTIFIER, IDENTS, USES_ALONE],
     &[W_EQUAL, METHOD],
 ];
 
-pub const METHODS_DECLARES_ROWS: &[&[Symbol]] = &[
+const METHODS_DECLARES_ROWS: &[&[Symbol]] = &[
     &[W_METHODS, W_IDENTIFIER, IDENTS, DECLARES_ALONE],
     &[W_DECLARES, W_IDENTIFIER, IDENTS, METHODS_ALONE],
     &[W_EQUAL, METHOD],
 ];
 
-pub const METHODS_USES_ROWS: &[&[Symbol]] = &[
+const METHODS_USES_ROWS: &[&[Symbol]] = &[
     &[W_METHODS, W_IDENTIFIER, IDENTS, USES_ALONE],
     &[W_USES, W_IDENTIFIER, IDENTS, METHODS_ALONE],
     &[W_EQUAL, METHOD],
 ];
 
-pub const METHODS_ALONE_ROWS: &[&[Symbol]] = &[
+const METHODS_ALONE_ROWS: &[&[Symbol]] = &[
     &[W_METHODS, W_IDENTIFIER, IDENTS, BODY],
     &[W_EQUAL, METHOD],
 ];
 
-pub const USES_ALONE_ROWS: &[&[Symbol]] = &[
-    &[W_USES, W_IDENTIFIER, IDENTS, BODY],
-    &[W_EQUAL, METHOD],
-];
+const USES_ALONE_ROWS: &[&[Symbol]] = &[&[W_USES, W_IDENTIFIER, IDENTS, BODY], &[W_EQUAL, METHOD]];
 
-pub const DECLARES_ALONE_ROWS: &[&[Symbol]] = &[
+const DECLARES_ALONE_ROWS: &[&[Symbol]] = &[
     &[W_DECLARES, W_IDENTIFIER, IDENTS, BODY],
     &[W_EQUAL, METHOD],
 ];
 
-pub const BODY_ROWS: &[&[Symbol]] = &[&[W_EQUAL, METHOD]];
+const BODY_ROWS: &[&[Symbol]] = &[&[W_EQUAL, METHOD]];
 
-pub const STATEMENT_ROWS: &[&[Symbol]] = &[
+const STATEMENT_ROWS: &[&[Symbol]] = &[
     &[W_NAME, STATEMENT_NAME],
     &[W_LEFT, ATT, MORE_ATTS, W_RIGHT, W_COLON, STATED],
     &[W_NO_NAME, PATTERN],
@@ -948,28 +551,25 @@ pub const STATEMENT_ROWS: &[&[Symbol]] = &[
     &[W_SHOWS, PROP],
 ];
 
-pub const STATEMENT_NAME_ROWS: &[&[Symbol]] = &[
+const STATEMENT_NAME_ROWS: &[&[Symbol]] = &[
     &[],
     &[W_COLON, STATED],
     &[W_LEFT, ATT, MORE_ATTS, W_RIGHT, W_COLON, STATED],
     &[W_OPEN, W_IS, W_TERM, TERMS, W_CLOSE],
 ];
 
-pub const STATED_ROWS: &[&[Symbol]] = &[
+const STATED_ROWS: &[&[Symbol]] = &[
     &[W_TERM, PATTERN],
     &[W_FIXES, VARS, OPT_ASSUMES, W_SHOWS, PROP],
     &[W_ASSUMES, PROPS, W_SHOWS, PROP],
     &[W_SHOWS, PROP],
 ];
 
-pub const OPT_ASSUMES_ROWS: &[&[Symbol]] = &[&[], &[W_ASSUMES, PROPS]];
+const OPT_ASSUMES_ROWS: &[&[Symbol]] = &[&[], &[W_ASSUMES, PROPS]];
 
-pub const MORE_EQUATIONS_ROWS: &[&[Symbol]] = &[
-    &[],
-    &[W_AND, W_TERM, W_EQUAL, W_TERM, MORE_EQUATIONS],
-];
+const MORE_EQUATIONS_ROWS: &[&[Symbol]] = &[&[], &[W_AND, W_TERM, W_EQUAL, W_TERM, MORE_EQUATIONS]];
 
-pub const NOTE_NAME_ROWS: &[&[Symbol]] = &[
+const NOTE_NAME_ROWS: &[&[Symbol]] = &[
     &[],
     &[W_EQUAL, W_NAME, SELS, OPT_ATTS, NOTE_MORE],
     &[W_LEFT, ATT, MORE_ATTS, W_RIGHT, NOTE_EQUAL],
@@ -978,20 +578,20 @@ pub const NOTE_NAME_ROWS: &[&[Symbol]] = &[
     &[W_NAME, SELS, OPT_ATTS, NOTE_MORE],
 ];
 
-pub const NOTE_EQUAL_ROWS: &[&[Symbol]] = &[
+const NOTE_EQUAL_ROWS: &[&[Symbol]] = &[
     &[],
     &[W_EQUAL, W_NAME, SELS, OPT_ATTS, NOTE_MORE],
     &[W_AND, W_NAME, NOTE_NAME],
     &[W_NAME, SELS, OPT_ATTS, NOTE_MORE],
 ];
 
-pub const NOTE_MORE_ROWS: &[&[Symbol]] = &[
+const NOTE_MORE_ROWS: &[&[Symbol]] = &[
     &[],
     &[W_AND, W_NAME, NOTE_NAME],
     &[W_NAME, SELS, OPT_ATTS, NOTE_MORE],
 ];
 
-pub const OBTAINED_ROWS: &[&[Symbol]] = &[
+const OBTAINED_ROWS: &[&[Symbol]] = &[
     &[W_IDENTIFIER, OBTAINED_ONE],
     &[W_LONG, PROPS_NAME],
     &[
@@ -1000,7 +600,7 @@ pub const OBTAINED_ROWS: &[&[Symbol]] = &[
     &[W_NO_NAME, PATTERN, MORE_PROPS],
 ];
 
-pub const OBTAINED_ONE_ROWS: &[&[Symbol]] = &[
+const OBTAINED_ONE_ROWS: &[&[Symbol]] = &[
     &[],
     &[W_IDENTIFIER, OBTAINED_MORE],
     &[W_COLONS, W_TYPE, MORE_VARS, W_WHERE, PROPS],
@@ -1014,7 +614,7 @@ pub const OBTAINED_ONE_ROWS: &[&[Symbol]] = &[
     &[W_NO_IDENT, PATTERN, MORE_PROPS],
 ];
 
-pub const OBTAINED_MORE_ROWS: &[&[Symbol]] = &[
+const OBTAINED_MORE_ROWS: &[&[Symbol]] = &[
     &[],
     &[W_IDENTIFIER, OBTAINED_MORE],
     &[W_COLONS, W_TYPE, MORE_VARS, W_WHERE, PROPS],
@@ -1024,7 +624,7 @@ pub const OBTAINED_MORE_ROWS: &[&[Symbol]] = &[
     &[W_NO_IDENT, PATTERN, MORE_PROPS],
 ];
 
-pub const COMMAND_ROWS: &[&[Symbol]] = &[
+const COMMAND_ROWS: &[&[Symbol]] = &[
     &[W_THEORY, W_NAME, W_IMPORTS, W_NAME, NAMES, W_BEGIN],
     &[W_END],
     &[W_CHAPTER, W_QUOTED],

@@ -1,6 +1,6 @@
 use crate::class::Class;
+use crate::part::Part;
 use crate::reading::{Verdict, read};
-use crate::table::Part;
 use std::test::Fail;
 
 /// What is known of a method in some nested parentheses, with these classes behind the name inside.

@@ -1,6 +1,6 @@
 use Rattle.std.proofs.Common.{◌≡◌, [], ◌∷◌, reverse, take}
 use Rattle.std.specs.Prelude.{Some}
-use Rattle.iv_gram.specs.declared.table.Symbol.TheVariants.{Goes}
+use Rattle.iv_gram.specs.declared.part.Symbol.TheVariants.{Goes}
 use Rattle.iv_gram.specs.Table.{forms}
 use Rattle.iv_gram.proofs.Checks.{run}
 use Rattle.iv_gram.proofs.reading.read.Given as goal

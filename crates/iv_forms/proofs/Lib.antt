@@ -1,0 +1,9 @@
+pub mod Sorts
+pub mod Means
+pub mod Helpers
+pub mod RowsFact
+pub mod RowsProp
+pub mod RowsMethod
+pub mod RowsCommand
+pub mod RowsWord
+pub mod Closed

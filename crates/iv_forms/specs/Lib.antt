@@ -1,0 +1,5 @@
+pub mod Lexeme
+pub mod FactForm
+pub mod PropForm
+pub mod MethodForm
+pub mod CommandForm
