@@ -1,12 +1,9 @@
 -- Written by tools/outer_means.py from tools/meanings.txt.
 -- What a row of a part means, the part means.
-use Rattle.std.proofs.Common.{◌≡◌, List, [], ◌∷◌, refl, subst, inl, inr}
-use Rattle.iv_gram.specs.declared.class.Class.TheVariants as class
-use Rattle.iv_gram.specs.declared.class.Sort.TheVariants as sort
+use Rattle.std.proofs.Common.{List}
 use Rattle.iv_gram.specs.declared.part.Part.TheVariants as P
 use Rattle.iv_gram.specs.declared.part.Part.{Part}
 use Rattle.iv_gram.specs.declared.part.Symbol.{Symbol}
-use Rattle.iv_gram.specs.declared.part.Symbol.TheVariants.{Goes}
 use Rattle.iv_forms.specs.declared.lexeme.Lexeme.{Lexeme}
 use Rattle.iv_forms.proofs.Sorts.{Law}
 use Rattle.iv_forms.proofs.Means.{Means, MeansPart}

@@ -1,5 +1,5 @@
 -- Forms that are put together of parts.
-use Rattle.std.proofs.Common.{◌≡◌, ℕ, List, [], ◌∷◌, Bool, true, false, refl, inl, inr}
+use Rattle.std.proofs.Common.{◌≡◌, ℕ, List, ◌∷◌, Bool, true, false, refl, inl, inr}
 use Rattle.std.specs.Prelude.{Option, Some, None, ◌⊎◌, ◌||◌}
 use Rattle.iv_gram.specs.declared.class.Class.TheVariants as class
 use Rattle.iv_gram.specs.declared.class.Sort.TheVariants as sort
@@ -32,8 +32,9 @@ or_false false h = h
 pub mark_of : (t : Lexeme) {ts : List Lexeme} → Is sort.Mark t → Some_of IsMark (t ∷ ts) ts
 mark_of t h =
     elim (or_parts (same_class t.class class.Question) (same_class t.class class.Exclamation || false) h) [
-      inl q ↦ (VMark.Weak, weak q)
-    | inr e ↦ (VMark.Strong, strong (or_false (same_class t.class class.Exclamation) e)) ]
+      | inl q ↦ (VMark.Weak, weak q)
+      | inr e ↦ (VMark.Strong, strong (or_false (same_class t.class class.Exclamation) e))
+    ]
 
 pub and_props : {a : Lexeme} {gs : List Group} {ts us : List Lexeme} → IsA class.And a → IsProps gs ts us → IsMoreGroups gs (a ∷ ts) us
 and_props a (props g gs) = more_groups a g gs

@@ -7,3 +7,10 @@ pub mod RowsMethod
 pub mod RowsCommand
 pub mod RowsWord
 pub mod Closed
+pub mod Splits
+pub mod BackFact
+pub mod BackProp
+pub mod BackMethod
+pub mod BackCommand
+pub mod BackForm
+pub mod Verdicts

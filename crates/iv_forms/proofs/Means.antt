@@ -1,5 +1,5 @@
 -- What each part of the table means, in words of the forms.
-use Rattle.std.proofs.Common.{◌≡◌, ℕ, List, [], ◌∷◌, Bool, true, false}
+use Rattle.std.proofs.Common.{◌≡◌, List, [], ◌∷◌, Bool, true, false}
 use Rattle.std.specs.Prelude.{Option, ◌⊎◌}
 use Rattle.iv_lex.specs.declared.cutting.Token.{Token}
 use Rattle.iv_gram.specs.declared.class.Class.TheVariants as class

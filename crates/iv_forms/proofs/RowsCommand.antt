@@ -1,7 +1,6 @@
 -- Written by tools/outer_means.py from tools/meanings.txt.
 -- What the rows of the table mean.
-use Rattle.std.proofs.Common.{◌≡◌, List, [], ◌∷◌, refl, subst, inl, inr}
-use Rattle.iv_gram.specs.declared.class.Class.TheVariants as class
+use Rattle.std.proofs.Common.{List, [], ◌∷◌, refl, subst, inl, inr}
 use Rattle.iv_gram.specs.declared.class.Sort.TheVariants as sort
 use Rattle.iv_gram.specs.declared.part.Part.TheVariants as P
 use Rattle.iv_gram.specs.declared.part.Symbol.{Symbol}
@@ -21,8 +20,10 @@ use Rattle.iv_gram.specs.Spell.{IsIn}
 module _ (law : Law) where
   pub row_typed_0 : {ts us : List Lexeme} → Means (IDENTIFIER ∷ []) ts us → MeansPart P.Typed ts us
   row_typed_0 (token X x end) = (_, X, no_tvars, x)
+
   pub row_typed_1 : {ts us : List Lexeme} → Means (TVAR ∷ IDENTIFIER ∷ []) ts us → MeansPart P.Typed ts us
   row_typed_1 (token V v (token X x end)) = (_, X, one_tvar v, x)
+
   pub row_typed_2 : {ts us : List Lexeme} → Means (OPEN ∷ TVAR ∷ Goes P.MoreTvars ∷ CLOSE ∷ IDENTIFIER ∷ []) ts us → MeansPart P.Typed ts us
   row_typed_2 (token A a (token V v (phrase vs (token B b (token X x end))))) = (_, X, tvars a v vs.1 b, x)
 
@@ -34,6 +35,7 @@ module _ (law : Law) where
 
   pub row_more_tvars_0 : {ts us : List Lexeme} → Means ([]) ts us → MeansPart P.MoreTvars ts us
   row_more_tvars_0 end = (_, no_more_tvars)
+
   pub row_more_tvars_1 : {ts us : List Lexeme} → Means (COMMA ∷ TVAR ∷ Goes P.MoreTvars ∷ []) ts us → MeansPart P.MoreTvars ts us
   row_more_tvars_1 (token C c (token V v (phrase vs end))) = (_, more_tvars c v vs.1)
 
@@ -44,6 +46,7 @@ module _ (law : Law) where
 
   pub row_more_consts_0 : {ts us : List Lexeme} → Means ([]) ts us → MeansPart P.MoreConsts ts us
   row_more_consts_0 end = (_, no_more_consts)
+
   pub row_more_consts_1 : {ts us : List Lexeme} → Means (IDENTIFIER ∷ COLONS ∷ TYPE ∷ Goes P.Fix ∷ Goes P.MoreConsts ∷ []) ts us → MeansPart P.MoreConsts ts us
   row_more_consts_1 (token X x (token C c (token T t (phrase f (phrase xs end))))) = (_, more_consts (const x c t f.1) xs.1)
 
@@ -54,6 +57,7 @@ module _ (law : Law) where
 
   pub row_judgment_form_0 : {ts us : List Lexeme} → Means ([]) ts us → MeansPart P.JudgmentForm ts us
   row_judgment_form_0 end = no_judgment_form
+
   pub row_judgment_form_1 : {ts us : List Lexeme} → Means (OPEN ∷ JUDGING ∷ PRIORITY ∷ CLOSE ∷ []) ts us → MeansPart P.JudgmentForm ts us
   row_judgment_form_1 (token A a (token S s (token N n (token B b end)))) = judgment_form a s n b
 
@@ -64,8 +68,10 @@ module _ (law : Law) where
 
   pub row_axiomatized_0 : {ts us : List Lexeme} → Means ([]) ts us → MeansPart P.Axiomatized ts us
   row_axiomatized_0 end = (_, _, _, no_axiom_consts, no_axioms)
+
   pub row_axiomatized_1 : {ts us : List Lexeme} → Means (IDENTIFIER ∷ COLONS ∷ TYPE ∷ Goes P.Fix ∷ Goes P.AxiomConsts ∷ []) ts us → MeansPart P.Axiomatized ts us
   row_axiomatized_1 (token X x (token C c (token T t (phrase f (phrase r end))))) = (_, _, _, axiom_consts (const x c t f.1) r.3, r.4)
+
   pub row_axiomatized_2 : {ts us : List Lexeme} → Means (WHERE ∷ Goes P.Axiom ∷ Goes P.MoreAxioms ∷ []) ts us → MeansPart P.Axiomatized ts us
   row_axiomatized_2 (token W w (phrase x (phrase xs end))) = (_, _, _, no_axiom_consts, axioms w x.1 xs.1)
 
@@ -77,8 +83,10 @@ module _ (law : Law) where
 
   pub row_axiom_consts_0 : {ts us : List Lexeme} → Means ([]) ts us → MeansPart P.AxiomConsts ts us
   row_axiom_consts_0 end = (_, _, _, no_and_consts, no_axioms)
+
   pub row_axiom_consts_1 : {ts us : List Lexeme} → Means (AND ∷ IDENTIFIER ∷ COLONS ∷ TYPE ∷ Goes P.Fix ∷ Goes P.AxiomConsts ∷ []) ts us → MeansPart P.AxiomConsts ts us
   row_axiom_consts_1 (token A a (token X x (token C c (token T t (phrase f (phrase r end)))))) = (_, _, _, and_consts a (const x c t f.1) r.3, r.4)
+
   pub row_axiom_consts_2 : {ts us : List Lexeme} → Means (WHERE ∷ Goes P.Axiom ∷ Goes P.MoreAxioms ∷ []) ts us → MeansPart P.AxiomConsts ts us
   row_axiom_consts_2 (token W w (phrase x (phrase xs end))) = (_, _, _, no_and_consts, axioms w x.1 xs.1)
 
@@ -97,6 +105,7 @@ module _ (law : Law) where
 
   pub row_more_axioms_0 : {ts us : List Lexeme} → Means ([]) ts us → MeansPart P.MoreAxioms ts us
   row_more_axioms_0 end = (_, no_more_axioms)
+
   pub row_more_axioms_1 : {ts us : List Lexeme} → Means (AND ∷ Goes P.Axiom ∷ Goes P.MoreAxioms ∷ []) ts us → MeansPart P.MoreAxioms ts us
   row_more_axioms_1 (token A a (phrase x (phrase xs end))) = (_, more_axioms a x.1 xs.1)
 
@@ -107,10 +116,13 @@ module _ (law : Law) where
 
   pub row_parts_0 : {ts us : List Lexeme} → Means (METHODS ∷ IDENTIFIER ∷ Goes P.Idents ∷ Goes P.UsesDeclares ∷ []) ts us → MeansPart P.Parts ts us
   row_parts_0 (token W w (token X x (phrase xs (phrase r end)))) = (_, r.1, r.2, r.3, methods_part w x xs.1 r.4 r.7, r.5, r.6, tt, r.8, r.9)
+
   pub row_parts_1 : {ts us : List Lexeme} → Means (USES ∷ IDENTIFIER ∷ Goes P.Idents ∷ Goes P.MethodsDeclares ∷ []) ts us → MeansPart P.Parts ts us
   row_parts_1 (token W w (token X x (phrase xs (phrase r end)))) = (_, r.1, r.2, r.3, uses_part w x xs.1 r.4 r.8, r.5, r.6, r.7, tt, r.9)
+
   pub row_parts_2 : {ts us : List Lexeme} → Means (DECLARES ∷ IDENTIFIER ∷ Goes P.Idents ∷ Goes P.MethodsUses ∷ []) ts us → MeansPart P.Parts ts us
   row_parts_2 (token W w (token X x (phrase xs (phrase r end)))) = (_, r.1, r.2, r.3, declares_part w x xs.1 r.4 r.9, r.5, r.6, r.7, r.8, tt)
+
   pub row_parts_3 : {ts us : List Lexeme} → Means (EQUAL ∷ Goes P.Method ∷ []) ts us → MeansPart P.Parts ts us
   row_parts_3 (token E e (phrase m end)) = (_, E, m.0, _, no_parts, e, m.1, tt, tt, tt)
 
@@ -123,8 +135,10 @@ module _ (law : Law) where
 
   pub row_uses_declares_0 : {ts us : List Lexeme} → Means (USES ∷ IDENTIFIER ∷ Goes P.Idents ∷ Goes P.DeclaresAlone ∷ []) ts us → MeansPart P.UsesDeclares ts us
   row_uses_declares_0 (token W w (token X x (phrase xs (phrase r end)))) = (_, r.1, r.2, r.3, uses_part w x xs.1 r.4 r.8, r.5, r.6, r.7, tt, r.9)
+
   pub row_uses_declares_1 : {ts us : List Lexeme} → Means (DECLARES ∷ IDENTIFIER ∷ Goes P.Idents ∷ Goes P.UsesAlone ∷ []) ts us → MeansPart P.UsesDeclares ts us
   row_uses_declares_1 (token W w (token X x (phrase xs (phrase r end)))) = (_, r.1, r.2, r.3, declares_part w x xs.1 r.4 r.9, r.5, r.6, r.7, r.8, tt)
+
   pub row_uses_declares_2 : {ts us : List Lexeme} → Means (EQUAL ∷ Goes P.Method ∷ []) ts us → MeansPart P.UsesDeclares ts us
   row_uses_declares_2 (token E e (phrase m end)) = (_, E, m.0, _, no_parts, e, m.1, refl, tt, tt)
 
@@ -136,8 +150,10 @@ module _ (law : Law) where
 
   pub row_methods_declares_0 : {ts us : List Lexeme} → Means (METHODS ∷ IDENTIFIER ∷ Goes P.Idents ∷ Goes P.DeclaresAlone ∷ []) ts us → MeansPart P.MethodsDeclares ts us
   row_methods_declares_0 (token W w (token X x (phrase xs (phrase r end)))) = (_, r.1, r.2, r.3, methods_part w x xs.1 r.4 r.7, r.5, r.6, tt, r.8, r.9)
+
   pub row_methods_declares_1 : {ts us : List Lexeme} → Means (DECLARES ∷ IDENTIFIER ∷ Goes P.Idents ∷ Goes P.MethodsAlone ∷ []) ts us → MeansPart P.MethodsDeclares ts us
   row_methods_declares_1 (token W w (token X x (phrase xs (phrase r end)))) = (_, r.1, r.2, r.3, declares_part w x xs.1 r.4 r.9, r.5, r.6, r.7, r.8, tt)
+
   pub row_methods_declares_2 : {ts us : List Lexeme} → Means (EQUAL ∷ Goes P.Method ∷ []) ts us → MeansPart P.MethodsDeclares ts us
   row_methods_declares_2 (token E e (phrase m end)) = (_, E, m.0, _, no_parts, e, m.1, tt, refl, tt)
 
@@ -149,8 +165,10 @@ module _ (law : Law) where
 
   pub row_methods_uses_0 : {ts us : List Lexeme} → Means (METHODS ∷ IDENTIFIER ∷ Goes P.Idents ∷ Goes P.UsesAlone ∷ []) ts us → MeansPart P.MethodsUses ts us
   row_methods_uses_0 (token W w (token X x (phrase xs (phrase r end)))) = (_, r.1, r.2, r.3, methods_part w x xs.1 r.4 r.7, r.5, r.6, tt, r.8, r.9)
+
   pub row_methods_uses_1 : {ts us : List Lexeme} → Means (USES ∷ IDENTIFIER ∷ Goes P.Idents ∷ Goes P.MethodsAlone ∷ []) ts us → MeansPart P.MethodsUses ts us
   row_methods_uses_1 (token W w (token X x (phrase xs (phrase r end)))) = (_, r.1, r.2, r.3, uses_part w x xs.1 r.4 r.8, r.5, r.6, r.7, tt, r.9)
+
   pub row_methods_uses_2 : {ts us : List Lexeme} → Means (EQUAL ∷ Goes P.Method ∷ []) ts us → MeansPart P.MethodsUses ts us
   row_methods_uses_2 (token E e (phrase m end)) = (_, E, m.0, _, no_parts, e, m.1, tt, tt, refl)
 
@@ -162,6 +180,7 @@ module _ (law : Law) where
 
   pub row_methods_alone_0 : {ts us : List Lexeme} → Means (METHODS ∷ IDENTIFIER ∷ Goes P.Idents ∷ Goes P.Body ∷ []) ts us → MeansPart P.MethodsAlone ts us
   row_methods_alone_0 (token W w (token X x (phrase xs (phrase r end)))) = (_, r.1, r.2, r.3, methods_part w x xs.1 r.4 r.7, r.5, r.6, tt, r.8, r.9)
+
   pub row_methods_alone_1 : {ts us : List Lexeme} → Means (EQUAL ∷ Goes P.Method ∷ []) ts us → MeansPart P.MethodsAlone ts us
   row_methods_alone_1 (token E e (phrase m end)) = (_, E, m.0, _, no_parts, e, m.1, tt, refl, refl)
 
@@ -172,6 +191,7 @@ module _ (law : Law) where
 
   pub row_uses_alone_0 : {ts us : List Lexeme} → Means (USES ∷ IDENTIFIER ∷ Goes P.Idents ∷ Goes P.Body ∷ []) ts us → MeansPart P.UsesAlone ts us
   row_uses_alone_0 (token W w (token X x (phrase xs (phrase r end)))) = (_, r.1, r.2, r.3, uses_part w x xs.1 r.4 r.8, r.5, r.6, r.7, tt, r.9)
+
   pub row_uses_alone_1 : {ts us : List Lexeme} → Means (EQUAL ∷ Goes P.Method ∷ []) ts us → MeansPart P.UsesAlone ts us
   row_uses_alone_1 (token E e (phrase m end)) = (_, E, m.0, _, no_parts, e, m.1, refl, tt, refl)
 
@@ -182,6 +202,7 @@ module _ (law : Law) where
 
   pub row_declares_alone_0 : {ts us : List Lexeme} → Means (DECLARES ∷ IDENTIFIER ∷ Goes P.Idents ∷ Goes P.Body ∷ []) ts us → MeansPart P.DeclaresAlone ts us
   row_declares_alone_0 (token W w (token X x (phrase xs (phrase r end)))) = (_, r.1, r.2, r.3, declares_part w x xs.1 r.4 r.9, r.5, r.6, r.7, r.8, tt)
+
   pub row_declares_alone_1 : {ts us : List Lexeme} → Means (EQUAL ∷ Goes P.Method ∷ []) ts us → MeansPart P.DeclaresAlone ts us
   row_declares_alone_1 (token E e (phrase m end)) = (_, E, m.0, _, no_parts, e, m.1, refl, refl, tt)
 
@@ -199,14 +220,19 @@ module _ (law : Law) where
 
   pub row_statement_0 : {ts us : List Lexeme} → Means (NAME ∷ Goes P.StatementName ∷ []) ts us → MeansPart P.Statement ts us
   row_statement_0 (token N n (phrase f end)) = f N n
+
   pub row_statement_1 : {ts us : List Lexeme} → Means (LEFT ∷ Goes P.Att ∷ Goes P.MoreAtts ∷ RIGHT ∷ COLON ∷ Goes P.Stated ∷ []) ts us → MeansPart P.Statement ts us
   row_statement_1 (token A a (phrase x (phrase xs (token B b (token C c (phrase s end)))))) = labelled (a_label (bare_label (atts a x.1 xs.1 b) c)) s
+
   pub row_statement_2 : {ts us : List Lexeme} → Means (NO_NAME ∷ Goes P.Pattern ∷ []) ts us → MeansPart P.Statement ts us
   row_statement_2 (token T t (phrase ps end)) = (_, short no_label (prop (within law sort.NoName sort.Term refl T t) ps.1))
+
   pub row_statement_3 : {ts us : List Lexeme} → Means (FIXES ∷ Goes P.Vars ∷ Goes P.OptAssumes ∷ SHOWS ∷ Goes P.Prop ∷ []) ts us → MeansPart P.Statement ts us
   row_statement_3 (token W w (phrase vs (phrase gs (token Sh sh (phrase p end))))) = (_, long no_label (fixes w vs.1) gs.1 sh p.1)
+
   pub row_statement_4 : {ts us : List Lexeme} → Means (ASSUMES ∷ Goes P.Props ∷ SHOWS ∷ Goes P.Prop ∷ []) ts us → MeansPart P.Statement ts us
   row_statement_4 (token W w (phrase gs (token Sh sh (phrase p end)))) = (_, long no_label no_fixes (assumes w gs.1) sh p.1)
+
   pub row_statement_5 : {ts us : List Lexeme} → Means (SHOWS ∷ Goes P.Prop ∷ []) ts us → MeansPart P.Statement ts us
   row_statement_5 (token Sh sh (phrase p end)) = (_, long no_label no_fixes no_assumes sh p.1)
 
@@ -221,10 +247,13 @@ module _ (law : Law) where
 
   pub row_statement_name_0 : {ts us : List Lexeme} → Means ([]) ts us → MeansPart P.StatementName ts us
   row_statement_name_0 end = (λ n h. (_, short no_label (prop (name_term law n h) no_patterns)))
+
   pub row_statement_name_1 : {ts us : List Lexeme} → Means (COLON ∷ Goes P.Stated ∷ []) ts us → MeansPart P.StatementName ts us
   row_statement_name_1 (token C c (phrase s end)) = (λ n h. labelled (a_label (named_label h no_atts c)) s)
+
   pub row_statement_name_2 : {ts us : List Lexeme} → Means (LEFT ∷ Goes P.Att ∷ Goes P.MoreAtts ∷ RIGHT ∷ COLON ∷ Goes P.Stated ∷ []) ts us → MeansPart P.StatementName ts us
   row_statement_name_2 (token A a (phrase x (phrase xs (token B b (token C c (phrase s end)))))) = (λ n h. labelled (a_label (named_label h (some_atts (atts a x.1 xs.1 b)) c)) s)
+
   pub row_statement_name_3 : {ts us : List Lexeme} → Means (OPEN ∷ IS ∷ TERM ∷ Goes P.Terms ∷ CLOSE ∷ []) ts us → MeansPart P.StatementName ts us
   row_statement_name_3 (token A a (token W w (token T t (phrase xs (token B b end))))) = (λ n h. (_, short no_label (prop (name_term law n h) (patterns a w t xs.1 b))))
 
@@ -237,10 +266,13 @@ module _ (law : Law) where
 
   pub row_stated_0 : {ts us : List Lexeme} → Means (TERM ∷ Goes P.Pattern ∷ []) ts us → MeansPart P.Stated ts us
   row_stated_0 (token T t (phrase ps end)) = brief (prop t ps.1)
+
   pub row_stated_1 : {ts us : List Lexeme} → Means (FIXES ∷ Goes P.Vars ∷ Goes P.OptAssumes ∷ SHOWS ∷ Goes P.Prop ∷ []) ts us → MeansPart P.Stated ts us
   row_stated_1 (token W w (phrase vs (phrase gs (token Sh sh (phrase p end))))) = full (fixes w vs.1) gs.1 sh p.1
+
   pub row_stated_2 : {ts us : List Lexeme} → Means (ASSUMES ∷ Goes P.Props ∷ SHOWS ∷ Goes P.Prop ∷ []) ts us → MeansPart P.Stated ts us
   row_stated_2 (token W w (phrase gs (token Sh sh (phrase p end)))) = full no_fixes (assumes w gs.1) sh p.1
+
   pub row_stated_3 : {ts us : List Lexeme} → Means (SHOWS ∷ Goes P.Prop ∷ []) ts us → MeansPart P.Stated ts us
   row_stated_3 (token Sh sh (phrase p end)) = full no_fixes no_assumes sh p.1
 
@@ -253,6 +285,7 @@ module _ (law : Law) where
 
   pub row_opt_assumes_0 : {ts us : List Lexeme} → Means ([]) ts us → MeansPart P.OptAssumes ts us
   row_opt_assumes_0 end = (_, no_assumes)
+
   pub row_opt_assumes_1 : {ts us : List Lexeme} → Means (ASSUMES ∷ Goes P.Props ∷ []) ts us → MeansPart P.OptAssumes ts us
   row_opt_assumes_1 (token W w (phrase gs end)) = (_, assumes w gs.1)
 
@@ -263,6 +296,7 @@ module _ (law : Law) where
 
   pub row_more_equations_0 : {ts us : List Lexeme} → Means ([]) ts us → MeansPart P.MoreEquations ts us
   row_more_equations_0 end = (_, no_more_equations)
+
   pub row_more_equations_1 : {ts us : List Lexeme} → Means (AND ∷ TERM ∷ EQUAL ∷ TERM ∷ Goes P.MoreEquations ∷ []) ts us → MeansPart P.MoreEquations ts us
   row_more_equations_1 (token A a (token X x (token E e (token T t (phrase xs end))))) = (_, more_equations a (equation x e t) xs.1)
 
@@ -273,14 +307,19 @@ module _ (law : Law) where
 
   pub row_note_name_0 : {ts us : List Lexeme} → Means ([]) ts us → MeansPart P.NoteName ts us
   row_note_name_0 end = (λ n h. (_, bare_notes (facts (fact h no_sels no_atts) no_more_facts) no_more_notes))
+
   pub row_note_name_1 : {ts us : List Lexeme} → Means (EQUAL ∷ NAME ∷ Goes P.Sels ∷ Goes P.OptAtts ∷ Goes P.NoteMore ∷ []) ts us → MeansPart P.NoteName ts us
   row_note_name_1 (token E e (token M m (phrase ss (phrase xs (phrase r end))))) = (λ n h. (_, named_notes (note_group h no_atts e (facts (fact m ss.1 xs.1) r.3)) r.4))
+
   pub row_note_name_2 : {ts us : List Lexeme} → Means (LEFT ∷ Goes P.Att ∷ Goes P.MoreAtts ∷ RIGHT ∷ Goes P.NoteEqual ∷ []) ts us → MeansPart P.NoteName ts us
   row_note_name_2 (token A a (phrase x (phrase xs (token B b (phrase f end))))) = (λ n h. f n _ _ h (atts a x.1 xs.1 b))
+
   pub row_note_name_3 : {ts us : List Lexeme} → Means (OPEN ∷ Goes P.Sel ∷ Goes P.MoreSels ∷ CLOSE ∷ Goes P.OptAtts ∷ Goes P.NoteMore ∷ []) ts us → MeansPart P.NoteName ts us
   row_note_name_3 (token A a (phrase s (phrase ss (token B b (phrase xs (phrase r end)))))) = (λ n h. (_, bare_notes (facts (fact h (sels a s.1 ss.1 b) xs.1) r.3) r.4))
+
   pub row_note_name_4 : {ts us : List Lexeme} → Means (AND ∷ NAME ∷ Goes P.NoteName ∷ []) ts us → MeansPart P.NoteName ts us
   row_note_name_4 (token A a (token M m (phrase f end))) = (λ n h. noted (fact h no_sels no_atts) (and_notes a (f M m).1))
+
   pub row_note_name_5 : {ts us : List Lexeme} → Means (NAME ∷ Goes P.Sels ∷ Goes P.OptAtts ∷ Goes P.NoteMore ∷ []) ts us → MeansPart P.NoteName ts us
   row_note_name_5 (token M m (phrase ss (phrase xs (phrase r end)))) = (λ n h. (_, bare_notes (facts (fact h no_sels no_atts) (more_facts (fact m ss.1 xs.1) r.3)) r.4))
 
@@ -295,10 +334,13 @@ module _ (law : Law) where
 
   pub row_note_equal_0 : {ts us : List Lexeme} → Means ([]) ts us → MeansPart P.NoteEqual ts us
   row_note_equal_0 end = (λ n ys start h k. (_, bare_notes (facts (fact h no_sels (some_atts k)) no_more_facts) no_more_notes))
+
   pub row_note_equal_1 : {ts us : List Lexeme} → Means (EQUAL ∷ NAME ∷ Goes P.Sels ∷ Goes P.OptAtts ∷ Goes P.NoteMore ∷ []) ts us → MeansPart P.NoteEqual ts us
   row_note_equal_1 (token E e (token M m (phrase ss (phrase xs (phrase r end))))) = (λ n ys start h k. (_, named_notes (note_group h (some_atts k) e (facts (fact m ss.1 xs.1) r.3)) r.4))
+
   pub row_note_equal_2 : {ts us : List Lexeme} → Means (AND ∷ NAME ∷ Goes P.NoteName ∷ []) ts us → MeansPart P.NoteEqual ts us
   row_note_equal_2 (token A a (token M m (phrase f end))) = (λ n ys start h k. noted (fact h no_sels (some_atts k)) (and_notes a (f M m).1))
+
   pub row_note_equal_3 : {ts us : List Lexeme} → Means (NAME ∷ Goes P.Sels ∷ Goes P.OptAtts ∷ Goes P.NoteMore ∷ []) ts us → MeansPart P.NoteEqual ts us
   row_note_equal_3 (token M m (phrase ss (phrase xs (phrase r end)))) = (λ n ys start h k. (_, bare_notes (facts (fact h no_sels (some_atts k)) (more_facts (fact m ss.1 xs.1) r.3)) r.4))
 
@@ -311,8 +353,10 @@ module _ (law : Law) where
 
   pub row_note_more_0 : {ts us : List Lexeme} → Means ([]) ts us → MeansPart P.NoteMore ts us
   row_note_more_0 end = (_, _, _, no_more_facts, no_more_notes)
+
   pub row_note_more_1 : {ts us : List Lexeme} → Means (AND ∷ NAME ∷ Goes P.NoteName ∷ []) ts us → MeansPart P.NoteMore ts us
   row_note_more_1 (token A a (token M m (phrase f end))) = and_notes a (f M m).1
+
   pub row_note_more_2 : {ts us : List Lexeme} → Means (NAME ∷ Goes P.Sels ∷ Goes P.OptAtts ∷ Goes P.NoteMore ∷ []) ts us → MeansPart P.NoteMore ts us
   row_note_more_2 (token M m (phrase ss (phrase xs (phrase r end)))) = (_, _, _, more_facts (fact m ss.1 xs.1) r.3, r.4)
 
@@ -324,10 +368,13 @@ module _ (law : Law) where
 
   pub row_obtained_0 : {ts us : List Lexeme} → Means (IDENTIFIER ∷ Goes P.ObtainedOne ∷ []) ts us → MeansPart P.Obtained ts us
   row_obtained_0 (token X x (phrase f end)) = f X x
+
   pub row_obtained_1 : {ts us : List Lexeme} → Means (LONG ∷ Goes P.PropsName ∷ []) ts us → MeansPart P.Obtained ts us
   row_obtained_1 (token N n (phrase f end)) = (_, obtained_props (f N (long_name law N n)).1)
+
   pub row_obtained_2 : {ts us : List Lexeme} → Means (LEFT ∷ Goes P.Att ∷ Goes P.MoreAtts ∷ RIGHT ∷ COLON ∷ TERM ∷ Goes P.Pattern ∷ Goes P.MoreProps ∷ []) ts us → MeansPart P.Obtained ts us
   row_obtained_2 (token A a (phrase x (phrase xs (token B b (token C c (token T t (phrase ps (phrase r end)))))))) = (_, obtained_props (props (group (a_label (bare_label (atts a x.1 xs.1 b) c)) (prop t ps.1) r.3) r.4))
+
   pub row_obtained_3 : {ts us : List Lexeme} → Means (NO_NAME ∷ Goes P.Pattern ∷ Goes P.MoreProps ∷ []) ts us → MeansPart P.Obtained ts us
   row_obtained_3 (token T t (phrase ps (phrase r end))) = (_, obtained_props (props (group no_label (prop (within law sort.NoName sort.Term refl T t) ps.1) r.3) r.4))
 
@@ -340,20 +387,28 @@ module _ (law : Law) where
 
   pub row_obtained_one_0 : {ts us : List Lexeme} → Means ([]) ts us → MeansPart P.ObtainedOne ts us
   row_obtained_one_0 end = (λ x h. (_, obtained_props (props (group no_label (prop (ident_term law x h) no_patterns) no_more_props) no_more_groups)))
+
   pub row_obtained_one_1 : {ts us : List Lexeme} → Means (IDENTIFIER ∷ Goes P.ObtainedMore ∷ []) ts us → MeansPart P.ObtainedOne ts us
   row_obtained_one_1 (token Y y (phrase f end)) = (λ x h. obtained_tail law x h (f Y y))
+
   pub row_obtained_one_2 : {ts us : List Lexeme} → Means (COLONS ∷ TYPE ∷ Goes P.MoreVars ∷ WHERE ∷ Goes P.Props ∷ []) ts us → MeansPart P.ObtainedOne ts us
   row_obtained_one_2 (token C c (token T t (phrase gs (token W w (phrase ps end))))) = (λ x h. obtained_tail law x h (var_tail no_more (of_type c t) gs.1 w ps.1))
+
   pub row_obtained_one_3 : {ts us : List Lexeme} → Means (WHERE ∷ Goes P.Props ∷ []) ts us → MeansPart P.ObtainedOne ts us
   row_obtained_one_3 (token W w (phrase ps end)) = (λ x h. obtained_tail law x h (var_tail no_more no_type no_more_vars w ps.1))
+
   pub row_obtained_one_4 : {ts us : List Lexeme} → Means (AND ∷ Goes P.Obtained ∷ []) ts us → MeansPart P.ObtainedOne ts us
   row_obtained_one_4 (token A a (phrase o end)) = (λ x h. obtained_tail law x h (and_tail a o.1))
+
   pub row_obtained_one_5 : {ts us : List Lexeme} → Means (COLON ∷ TERM ∷ Goes P.Pattern ∷ Goes P.MoreProps ∷ []) ts us → MeansPart P.ObtainedOne ts us
   row_obtained_one_5 (token C c (token T t (phrase ps (phrase r end)))) = (λ x h. (_, obtained_props (props (group (a_label (named_label (ident_name law x h) no_atts c)) (prop t ps.1) r.3) r.4)))
+
   pub row_obtained_one_6 : {ts us : List Lexeme} → Means (LEFT ∷ Goes P.Att ∷ Goes P.MoreAtts ∷ RIGHT ∷ COLON ∷ TERM ∷ Goes P.Pattern ∷ Goes P.MoreProps ∷ []) ts us → MeansPart P.ObtainedOne ts us
   row_obtained_one_6 (token A a (phrase y (phrase ys (token B b (token C c (token T t (phrase ps (phrase r end)))))))) = (λ x h. (_, obtained_props (props (group (a_label (named_label (ident_name law x h) (some_atts (atts a y.1 ys.1 b)) c)) (prop t ps.1) r.3) r.4)))
+
   pub row_obtained_one_7 : {ts us : List Lexeme} → Means (OPEN ∷ IS ∷ TERM ∷ Goes P.Terms ∷ CLOSE ∷ Goes P.MoreProps ∷ []) ts us → MeansPart P.ObtainedOne ts us
   row_obtained_one_7 (token A a (token W w (token T t (phrase xs (token B b (phrase r end)))))) = (λ x h. (_, obtained_props (props (group no_label (prop (ident_term law x h) (patterns a w t xs.1 b)) r.3) r.4)))
+
   pub row_obtained_one_8 : {ts us : List Lexeme} → Means (NO_IDENT ∷ Goes P.Pattern ∷ Goes P.MoreProps ∷ []) ts us → MeansPart P.ObtainedOne ts us
   row_obtained_one_8 (token T t (phrase ps (phrase r end))) = (λ x h. obtained_tail law x h (prop_tail (more_props (prop (no_ident_term law T t) ps.1) r.3) r.4))
 
@@ -371,16 +426,22 @@ module _ (law : Law) where
 
   pub row_obtained_more_0 : {ts us : List Lexeme} → Means ([]) ts us → MeansPart P.ObtainedMore ts us
   row_obtained_more_0 end = (λ x h. ident_tail law x h (prop_tail no_more_props no_more_groups))
+
   pub row_obtained_more_1 : {ts us : List Lexeme} → Means (IDENTIFIER ∷ Goes P.ObtainedMore ∷ []) ts us → MeansPart P.ObtainedMore ts us
   row_obtained_more_1 (token Y y (phrase f end)) = (λ x h. ident_tail law x h (f Y y))
+
   pub row_obtained_more_2 : {ts us : List Lexeme} → Means (COLONS ∷ TYPE ∷ Goes P.MoreVars ∷ WHERE ∷ Goes P.Props ∷ []) ts us → MeansPart P.ObtainedMore ts us
   row_obtained_more_2 (token C c (token T t (phrase gs (token W w (phrase ps end))))) = (λ x h. ident_tail law x h (var_tail no_more (of_type c t) gs.1 w ps.1))
+
   pub row_obtained_more_3 : {ts us : List Lexeme} → Means (WHERE ∷ Goes P.Props ∷ []) ts us → MeansPart P.ObtainedMore ts us
   row_obtained_more_3 (token W w (phrase ps end)) = (λ x h. ident_tail law x h (var_tail no_more no_type no_more_vars w ps.1))
+
   pub row_obtained_more_4 : {ts us : List Lexeme} → Means (AND ∷ Goes P.Obtained ∷ []) ts us → MeansPart P.ObtainedMore ts us
   row_obtained_more_4 (token A a (phrase o end)) = (λ x h. ident_tail law x h (and_tail a o.1))
+
   pub row_obtained_more_5 : {ts us : List Lexeme} → Means (OPEN ∷ IS ∷ TERM ∷ Goes P.Terms ∷ CLOSE ∷ Goes P.MoreProps ∷ []) ts us → MeansPart P.ObtainedMore ts us
   row_obtained_more_5 (token A a (token W w (token T t (phrase xs (token B b (phrase r end)))))) = (λ x h. prop_tail (more_props (prop (ident_term law x h) (patterns a w t xs.1 b)) r.3) r.4)
+
   pub row_obtained_more_6 : {ts us : List Lexeme} → Means (NO_IDENT ∷ Goes P.Pattern ∷ Goes P.MoreProps ∷ []) ts us → MeansPart P.ObtainedMore ts us
   row_obtained_more_6 (token T t (phrase ps (phrase r end))) = (λ x h. ident_tail law x h (prop_tail (more_props (prop (no_ident_term law T t) ps.1) r.3) r.4))
 

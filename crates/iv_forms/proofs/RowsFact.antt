@@ -1,6 +1,6 @@
 -- Written by tools/outer_means.py from tools/meanings.txt.
 -- What the rows of the table mean.
-use Rattle.std.proofs.Common.{◌≡◌, List, [], ◌∷◌, refl, subst, inl, inr}
+use Rattle.std.proofs.Common.{List, [], ◌∷◌, refl, subst, inl, inr}
 use Rattle.iv_gram.specs.declared.class.Class.TheVariants as class
 use Rattle.iv_gram.specs.declared.class.Sort.TheVariants as sort
 use Rattle.iv_gram.specs.declared.part.Part.TheVariants as P
@@ -32,8 +32,10 @@ module _ (law : Law) where
 
   pub row_more_facts_0 : {ts us : List Lexeme} → Means ([]) ts us → MeansPart P.MoreFacts ts us
   row_more_facts_0 end = (_, no_more_facts)
+
   pub row_more_facts_1 : {ts us : List Lexeme} → Means (AND ∷ Goes P.Fact ∷ Goes P.MoreFacts ∷ []) ts us → MeansPart P.MoreFacts ts us
   row_more_facts_1 (token A a (phrase f (phrase fs end))) = (_, and_facts a f.1 fs.1)
+
   pub row_more_facts_2 : {ts us : List Lexeme} → Means (NAME ∷ Goes P.Sels ∷ Goes P.OptAtts ∷ Goes P.MoreFacts ∷ []) ts us → MeansPart P.MoreFacts ts us
   row_more_facts_2 (token N n (phrase ss (phrase xs (phrase fs end)))) = (_, more_facts (fact n ss.1 xs.1) fs.1)
 
@@ -45,6 +47,7 @@ module _ (law : Law) where
 
   pub row_sels_0 : {ts us : List Lexeme} → Means ([]) ts us → MeansPart P.Sels ts us
   row_sels_0 end = (_, no_sels)
+
   pub row_sels_1 : {ts us : List Lexeme} → Means (OPEN ∷ Goes P.Sel ∷ Goes P.MoreSels ∷ CLOSE ∷ []) ts us → MeansPart P.Sels ts us
   row_sels_1 (token A a (phrase s (phrase ss (token B b end)))) = (_, sels a s.1 ss.1 b)
 
@@ -62,6 +65,7 @@ module _ (law : Law) where
 
   pub row_sel_to_0 : {ts us : List Lexeme} → Means ([]) ts us → MeansPart P.SelTo ts us
   row_sel_to_0 end = (λ n h. (_, one h))
+
   pub row_sel_to_1 : {ts us : List Lexeme} → Means (MINUS ∷ NUMERAL ∷ []) ts us → MeansPart P.SelTo ts us
   row_sel_to_1 (token D d (token M m end)) = (λ n h. (_, range h d m))
 
@@ -72,6 +76,7 @@ module _ (law : Law) where
 
   pub row_more_sels_0 : {ts us : List Lexeme} → Means ([]) ts us → MeansPart P.MoreSels ts us
   row_more_sels_0 end = (_, no_more_sels)
+
   pub row_more_sels_1 : {ts us : List Lexeme} → Means (COMMA ∷ Goes P.Sel ∷ Goes P.MoreSels ∷ []) ts us → MeansPart P.MoreSels ts us
   row_more_sels_1 (token C c (phrase s (phrase ss end))) = (_, more_sels c s.1 ss.1)
 
@@ -82,6 +87,7 @@ module _ (law : Law) where
 
   pub row_opt_atts_0 : {ts us : List Lexeme} → Means ([]) ts us → MeansPart P.OptAtts ts us
   row_opt_atts_0 end = (_, no_atts)
+
   pub row_opt_atts_1 : {ts us : List Lexeme} → Means (LEFT ∷ Goes P.Att ∷ Goes P.MoreAtts ∷ RIGHT ∷ []) ts us → MeansPart P.OptAtts ts us
   row_opt_atts_1 (token A a (phrase x (phrase xs (token B b end)))) = (_, some_atts (atts a x.1 xs.1 b))
 
@@ -92,6 +98,7 @@ module _ (law : Law) where
 
   pub row_more_atts_0 : {ts us : List Lexeme} → Means ([]) ts us → MeansPart P.MoreAtts ts us
   row_more_atts_0 end = (_, no_more_atts)
+
   pub row_more_atts_1 : {ts us : List Lexeme} → Means (COMMA ∷ Goes P.Att ∷ Goes P.MoreAtts ∷ []) ts us → MeansPart P.MoreAtts ts us
   row_more_atts_1 (token C c (phrase x (phrase xs end))) = (_, more_atts c x.1 xs.1)
 
@@ -102,12 +109,16 @@ module _ (law : Law) where
 
   pub row_att_0 : {ts us : List Lexeme} → Means (OF_FACTS ∷ Goes P.OfFacts ∷ []) ts us → MeansPart P.Att ts us
   row_att_0 (token W w (phrase f end)) = f W w
+
   pub row_att_1 : {ts us : List Lexeme} → Means (THEN_FACT ∷ Goes P.ThenFact ∷ []) ts us → MeansPart P.Att ts us
   row_att_1 (token W w (phrase f end)) = f W w
+
   pub row_att_2 : {ts us : List Lexeme} → Means (OF_TERMS ∷ Goes P.OfTerms ∷ []) ts us → MeansPart P.Att ts us
   row_att_2 (token W w (phrase f end)) = f W w
+
   pub row_att_3 : {ts us : List Lexeme} → Means (WHERE ∷ IDENTIFIER ∷ EQUAL ∷ TERM ∷ Goes P.MoreWheres ∷ []) ts us → MeansPart P.Att ts us
   row_att_3 (token W w (token X x (token E e (token T t (phrase es end))))) = (_, where_are w (where_is x e t) es.1)
+
   pub row_att_4 : {ts us : List Lexeme} → Means (OTHER_NAME ∷ Goes P.OptMark ∷ []) ts us → MeansPart P.Att ts us
   row_att_4 (token N n (phrase m end)) = (_, att_name (within law sort.OtherName sort.Name refl N n) m.1)
 
@@ -121,6 +132,7 @@ module _ (law : Law) where
 
   pub row_opt_mark_0 : {ts us : List Lexeme} → Means ([]) ts us → MeansPart P.OptMark ts us
   row_opt_mark_0 end = (_, no_mark)
+
   pub row_opt_mark_1 : {ts us : List Lexeme} → Means (MARK ∷ []) ts us → MeansPart P.OptMark ts us
   row_opt_mark_1 (token M m end) = mark_of M m
 
@@ -131,10 +143,13 @@ module _ (law : Law) where
 
   pub row_of_facts_0 : {ts us : List Lexeme} → Means ([]) ts us → MeansPart P.OfFacts ts us
   row_of_facts_0 end = (λ w h. (_, att_name (within law (sort.Only class.OfFacts) sort.Name refl w h) no_mark))
+
   pub row_of_facts_1 : {ts us : List Lexeme} → Means (MARK ∷ []) ts us → MeansPart P.OfFacts ts us
   row_of_facts_1 (token M m end) = (λ w h. (_, att_name (within law (sort.Only class.OfFacts) sort.Name refl w h) (mark_of M m).1))
+
   pub row_of_facts_2 : {ts us : List Lexeme} → Means (NAME ∷ Goes P.Sels ∷ Goes P.OptAtts ∷ Goes P.FactPlaces ∷ []) ts us → MeansPart P.OfFacts ts us
   row_of_facts_2 (token N n (phrase ss (phrase xs (phrase ps end)))) = (λ w h. (_, of_facts h (fact_given (fact n ss.1 xs.1)) ps.1))
+
   pub row_of_facts_3 : {ts us : List Lexeme} → Means (DUMMY ∷ Goes P.FactPlaces ∷ []) ts us → MeansPart P.OfFacts ts us
   row_of_facts_3 (token D d (phrase ps end)) = (λ w h. (_, of_facts h (fact_hole d) ps.1))
 
@@ -147,8 +162,10 @@ module _ (law : Law) where
 
   pub row_fact_places_0 : {ts us : List Lexeme} → Means ([]) ts us → MeansPart P.FactPlaces ts us
   row_fact_places_0 end = (_, no_places)
+
   pub row_fact_places_1 : {ts us : List Lexeme} → Means (NAME ∷ Goes P.Sels ∷ Goes P.OptAtts ∷ Goes P.FactPlaces ∷ []) ts us → MeansPart P.FactPlaces ts us
   row_fact_places_1 (token N n (phrase ss (phrase xs (phrase ps end)))) = (_, places (fact_given (fact n ss.1 xs.1)) ps.1)
+
   pub row_fact_places_2 : {ts us : List Lexeme} → Means (DUMMY ∷ Goes P.FactPlaces ∷ []) ts us → MeansPart P.FactPlaces ts us
   row_fact_places_2 (token D d (phrase ps end)) = (_, places (fact_hole d) ps.1)
 
@@ -160,8 +177,10 @@ module _ (law : Law) where
 
   pub row_then_fact_0 : {ts us : List Lexeme} → Means ([]) ts us → MeansPart P.ThenFact ts us
   row_then_fact_0 end = (λ w h. (_, att_name (within law (sort.Only class.ThenFact) sort.Name refl w h) no_mark))
+
   pub row_then_fact_1 : {ts us : List Lexeme} → Means (MARK ∷ []) ts us → MeansPart P.ThenFact ts us
   row_then_fact_1 (token M m end) = (λ w h. (_, att_name (within law (sort.Only class.ThenFact) sort.Name refl w h) (mark_of M m).1))
+
   pub row_then_fact_2 : {ts us : List Lexeme} → Means (NAME ∷ Goes P.Sels ∷ Goes P.OptAtts ∷ []) ts us → MeansPart P.ThenFact ts us
   row_then_fact_2 (token N n (phrase ss (phrase xs end))) = (λ w h. (_, then_fact h (fact n ss.1 xs.1)))
 
@@ -173,10 +192,13 @@ module _ (law : Law) where
 
   pub row_of_terms_0 : {ts us : List Lexeme} → Means ([]) ts us → MeansPart P.OfTerms ts us
   row_of_terms_0 end = (λ w h. (_, att_name (within law (sort.Only class.OfTerms) sort.Name refl w h) no_mark))
+
   pub row_of_terms_1 : {ts us : List Lexeme} → Means (MARK ∷ []) ts us → MeansPart P.OfTerms ts us
   row_of_terms_1 (token M m end) = (λ w h. (_, att_name (within law (sort.Only class.OfTerms) sort.Name refl w h) (mark_of M m).1))
+
   pub row_of_terms_2 : {ts us : List Lexeme} → Means (TERM ∷ Goes P.TermPlaces ∷ []) ts us → MeansPart P.OfTerms ts us
   row_of_terms_2 (token T t (phrase ps end)) = (λ w h. (_, of_terms h (term_given t) ps.1))
+
   pub row_of_terms_3 : {ts us : List Lexeme} → Means (DUMMY ∷ Goes P.TermPlaces ∷ []) ts us → MeansPart P.OfTerms ts us
   row_of_terms_3 (token D d (phrase ps end)) = (λ w h. (_, of_terms h (term_hole d) ps.1))
 
@@ -189,8 +211,10 @@ module _ (law : Law) where
 
   pub row_term_places_0 : {ts us : List Lexeme} → Means ([]) ts us → MeansPart P.TermPlaces ts us
   row_term_places_0 end = (_, no_term_places)
+
   pub row_term_places_1 : {ts us : List Lexeme} → Means (TERM ∷ Goes P.TermPlaces ∷ []) ts us → MeansPart P.TermPlaces ts us
   row_term_places_1 (token T t (phrase ps end)) = (_, term_places (term_given t) ps.1)
+
   pub row_term_places_2 : {ts us : List Lexeme} → Means (DUMMY ∷ Goes P.TermPlaces ∷ []) ts us → MeansPart P.TermPlaces ts us
   row_term_places_2 (token D d (phrase ps end)) = (_, term_places (term_hole d) ps.1)
 
@@ -202,6 +226,7 @@ module _ (law : Law) where
 
   pub row_more_wheres_0 : {ts us : List Lexeme} → Means ([]) ts us → MeansPart P.MoreWheres ts us
   row_more_wheres_0 end = (_, no_more_wheres)
+
   pub row_more_wheres_1 : {ts us : List Lexeme} → Means (AND ∷ IDENTIFIER ∷ EQUAL ∷ TERM ∷ Goes P.MoreWheres ∷ []) ts us → MeansPart P.MoreWheres ts us
   row_more_wheres_1 (token A a (token X x (token E e (token T t (phrase es end))))) = (_, more_wheres a (where_is x e t) es.1)
 

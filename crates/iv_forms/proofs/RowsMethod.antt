@@ -1,6 +1,6 @@
 -- Written by tools/outer_means.py from tools/meanings.txt.
 -- What the rows of the table mean.
-use Rattle.std.proofs.Common.{◌≡◌, List, [], ◌∷◌, refl, subst, inl, inr}
+use Rattle.std.proofs.Common.{List, [], ◌∷◌, refl, subst, inl, inr}
 use Rattle.iv_gram.specs.declared.class.Class.TheVariants as class
 use Rattle.iv_gram.specs.declared.class.Sort.TheVariants as sort
 use Rattle.iv_gram.specs.declared.part.Part.TheVariants as P
@@ -21,8 +21,10 @@ use Rattle.iv_gram.specs.Spell.{IsIn}
 module _ (law : Law) where
   pub row_method_0 : {ts us : List Lexeme} → Means (NAME ∷ Goes P.Suffix ∷ []) ts us → MeansPart P.Method ts us
   row_method_0 (token N n (phrase f end)) = (_, method (core_name n) (f (VMethod.Name N.token)).1)
+
   pub row_method_1 : {ts us : List Lexeme} → Means (MINUS ∷ Goes P.Suffix ∷ []) ts us → MeansPart P.Method ts us
   row_method_1 (token D d (phrase f end)) = (_, method (core_dash d) (f VMethod.Dash).1)
+
   pub row_method_2 : {ts us : List Lexeme} → Means (OPEN ∷ Goes P.Item ∷ Goes P.MoreSeq ∷ Goes P.MoreSemi ∷ Goes P.MoreAlt ∷ CLOSE ∷ Goes P.Suffix ∷ []) ts us → MeansPart P.Method ts us
   row_method_2 (token A a (phrase i (phrase p (phrase q (phrase r (token B b (phrase f end))))))) = paren_of a (alt_of i p q r) b f
 
@@ -34,10 +36,13 @@ module _ (law : Law) where
 
   pub row_opt_method_0 : {ts us : List Lexeme} → Means ([]) ts us → MeansPart P.OptMethod ts us
   row_opt_method_0 end = (_, no_method)
+
   pub row_opt_method_1 : {ts us : List Lexeme} → Means (NAME ∷ Goes P.Suffix ∷ []) ts us → MeansPart P.OptMethod ts us
   row_opt_method_1 (token N n (phrase f end)) = (_, a_method (method (core_name n) (f (VMethod.Name N.token)).1))
+
   pub row_opt_method_2 : {ts us : List Lexeme} → Means (MINUS ∷ Goes P.Suffix ∷ []) ts us → MeansPart P.OptMethod ts us
   row_opt_method_2 (token D d (phrase f end)) = (_, a_method (method (core_dash d) (f VMethod.Dash).1))
+
   pub row_opt_method_3 : {ts us : List Lexeme} → Means (OPEN ∷ Goes P.Item ∷ Goes P.MoreSeq ∷ Goes P.MoreSemi ∷ Goes P.MoreAlt ∷ CLOSE ∷ Goes P.Suffix ∷ []) ts us → MeansPart P.OptMethod ts us
   row_opt_method_3 (token A a (phrase i (phrase p (phrase q (phrase r (token B b (phrase f end))))))) = (_, a_method (paren_of a (alt_of i p q r) b f).1)
 
@@ -50,10 +55,13 @@ module _ (law : Law) where
 
   pub row_suffix_0 : {ts us : List Lexeme} → Means ([]) ts us → MeansPart P.Suffix ts us
   row_suffix_0 end = (λ m. (m, no_suffix))
+
   pub row_suffix_1 : {ts us : List Lexeme} → Means (QUESTION ∷ []) ts us → MeansPart P.Suffix ts us
   row_suffix_1 (token Q q end) = (λ m. (VMethod.Try m, try q))
+
   pub row_suffix_2 : {ts us : List Lexeme} → Means (PLUS ∷ []) ts us → MeansPart P.Suffix ts us
   row_suffix_2 (token Q q end) = (λ m. (VMethod.Repeat m, repeat q))
+
   pub row_suffix_3 : {ts us : List Lexeme} → Means (LEFT ∷ Goes P.OptNat ∷ RIGHT ∷ []) ts us → MeansPart P.Suffix ts us
   row_suffix_3 (token A a (phrase n (token B b end))) = (λ m. (_, first a (opt_nat n.1) b))
 
@@ -66,6 +74,7 @@ module _ (law : Law) where
 
   pub row_opt_nat_0 : {ts us : List Lexeme} → Means ([]) ts us → MeansPart P.OptNat ts us
   row_opt_nat_0 end = (_, none_given)
+
   pub row_opt_nat_1 : {ts us : List Lexeme} → Means (NUMERAL ∷ []) ts us → MeansPart P.OptNat ts us
   row_opt_nat_1 (token N n end) = (_, one_given n)
 
@@ -76,6 +85,7 @@ module _ (law : Law) where
 
   pub row_more_alt_0 : {ts us : List Lexeme} → Means ([]) ts us → MeansPart P.MoreAlt ts us
   row_more_alt_0 end = (λ m. (m, no_bar))
+
   pub row_more_alt_1 : {ts us : List Lexeme} → Means (BAR ∷ Goes P.Item ∷ Goes P.MoreSeq ∷ Goes P.MoreSemi ∷ Goes P.MoreAlt ∷ []) ts us → MeansPart P.MoreAlt ts us
   row_more_alt_1 (token C c (phrase i (phrase p (phrase q (phrase r end))))) = (λ m. bar_of m c (semi_of i p q) r)
 
@@ -86,6 +96,7 @@ module _ (law : Law) where
 
   pub row_more_semi_0 : {ts us : List Lexeme} → Means ([]) ts us → MeansPart P.MoreSemi ts us
   row_more_semi_0 end = (λ m. (m, no_semicolon))
+
   pub row_more_semi_1 : {ts us : List Lexeme} → Means (SEMICOLON ∷ Goes P.Item ∷ Goes P.MoreSeq ∷ Goes P.MoreSemi ∷ []) ts us → MeansPart P.MoreSemi ts us
   row_more_semi_1 (token C c (phrase i (phrase p (phrase q end)))) = (λ m. semicolon_of m c (seq_of i p) q)
 
@@ -96,6 +107,7 @@ module _ (law : Law) where
 
   pub row_more_seq_0 : {ts us : List Lexeme} → Means ([]) ts us → MeansPart P.MoreSeq ts us
   row_more_seq_0 end = (λ m. (m, no_comma))
+
   pub row_more_seq_1 : {ts us : List Lexeme} → Means (COMMA ∷ Goes P.Item ∷ Goes P.MoreSeq ∷ []) ts us → MeansPart P.MoreSeq ts us
   row_more_seq_1 (token C c (phrase i (phrase p end))) = (λ m. comma_of m c i p)
 
@@ -106,12 +118,16 @@ module _ (law : Law) where
 
   pub row_item_0 : {ts us : List Lexeme} → Means (RULE ∷ Goes P.RuleRest ∷ []) ts us → MeansPart P.Item ts us
   row_item_0 (token W w (phrase f end)) = f W w
+
   pub row_item_1 : {ts us : List Lexeme} → Means (MATCH ∷ Goes P.MatchRest ∷ []) ts us → MeansPart P.Item ts us
   row_item_1 (token W w (phrase f end)) = f W w
+
   pub row_item_2 : {ts us : List Lexeme} → Means (CALL_NAME ∷ Goes P.CallRest ∷ []) ts us → MeansPart P.Item ts us
   row_item_2 (token N n (phrase f end)) = f N n
+
   pub row_item_3 : {ts us : List Lexeme} → Means (MINUS ∷ Goes P.Suffix ∷ []) ts us → MeansPart P.Item ts us
   row_item_3 (token D d (phrase f end)) = (_, item_method (method (core_dash d) (f VMethod.Dash).1))
+
   pub row_item_4 : {ts us : List Lexeme} → Means (OPEN ∷ Goes P.Item ∷ Goes P.MoreSeq ∷ Goes P.MoreSemi ∷ Goes P.MoreAlt ∷ CLOSE ∷ Goes P.Suffix ∷ []) ts us → MeansPart P.Item ts us
   row_item_4 (token A a (phrase i (phrase p (phrase q (phrase r (token B b (phrase f end))))))) = (_, item_method (paren_of a (alt_of i p q r) b f).1)
 
@@ -125,12 +141,16 @@ module _ (law : Law) where
 
   pub row_rule_rest_0 : {ts us : List Lexeme} → Means ([]) ts us → MeansPart P.RuleRest ts us
   row_rule_rest_0 end = (λ w h. (_, bare (within law (sort.Only class.Rule) sort.Name refl w h) no_suffix))
+
   pub row_rule_rest_1 : {ts us : List Lexeme} → Means (QUESTION ∷ []) ts us → MeansPart P.RuleRest ts us
   row_rule_rest_1 (token Q q end) = (λ w h. (_, bare (within law (sort.Only class.Rule) sort.Name refl w h) (try q)))
+
   pub row_rule_rest_2 : {ts us : List Lexeme} → Means (PLUS ∷ []) ts us → MeansPart P.RuleRest ts us
   row_rule_rest_2 (token Q q end) = (λ w h. (_, bare (within law (sort.Only class.Rule) sort.Name refl w h) (repeat q)))
+
   pub row_rule_rest_3 : {ts us : List Lexeme} → Means (LEFT ∷ Goes P.OptNat ∷ RIGHT ∷ []) ts us → MeansPart P.RuleRest ts us
   row_rule_rest_3 (token A a (phrase n (token B b end))) = (λ w h. (_, bare (within law (sort.Only class.Rule) sort.Name refl w h) (first a (opt_nat n.1) b)))
+
   pub row_rule_rest_4 : {ts us : List Lexeme} → Means (NAME ∷ Goes P.Sels ∷ Goes P.OptAtts ∷ Goes P.MoreFacts ∷ []) ts us → MeansPart P.RuleRest ts us
   row_rule_rest_4 (token N n (phrase ss (phrase xs (phrase fs end)))) = (λ w h. (_, item_rule h (facts (fact n ss.1 xs.1) fs.1)))
 
@@ -144,16 +164,22 @@ module _ (law : Law) where
 
   pub row_call_rest_0 : {ts us : List Lexeme} → Means ([]) ts us → MeansPart P.CallRest ts us
   row_call_rest_0 end = (λ w h. (_, bare (within law sort.CallName sort.Name refl w h) no_suffix))
+
   pub row_call_rest_1 : {ts us : List Lexeme} → Means (QUESTION ∷ []) ts us → MeansPart P.CallRest ts us
   row_call_rest_1 (token Q q end) = (λ w h. (_, bare (within law sort.CallName sort.Name refl w h) (try q)))
+
   pub row_call_rest_2 : {ts us : List Lexeme} → Means (PLUS ∷ []) ts us → MeansPart P.CallRest ts us
   row_call_rest_2 (token Q q end) = (λ w h. (_, bare (within law sort.CallName sort.Name refl w h) (repeat q)))
+
   pub row_call_rest_3 : {ts us : List Lexeme} → Means (LEFT ∷ Goes P.OptNat ∷ RIGHT ∷ []) ts us → MeansPart P.CallRest ts us
   row_call_rest_3 (token A a (phrase n (token B b end))) = (λ w h. (_, bare (within law sort.CallName sort.Name refl w h) (first a (opt_nat n.1) b)))
+
   pub row_call_rest_4 : {ts us : List Lexeme} → Means (IDENTIFIER ∷ Goes P.CallIdent ∷ []) ts us → MeansPart P.CallRest ts us
   row_call_rest_4 (token X x (phrase f end)) = (λ w h. item_of h (f X x))
+
   pub row_call_rest_5 : {ts us : List Lexeme} → Means (NO_IDENT ∷ Goes P.CallArgs ∷ []) ts us → MeansPart P.CallRest ts us
   row_call_rest_5 (token T t (phrase r end)) = (λ w h. (_, item_call h (arg_term (no_ident_term law T t)) r.3 r.4))
+
   pub row_call_rest_6 : {ts us : List Lexeme} → Means (OPEN ∷ Goes P.Item ∷ Goes P.MoreSeq ∷ Goes P.MoreSemi ∷ Goes P.MoreAlt ∷ CLOSE ∷ Goes P.CallArgs ∷ []) ts us → MeansPart P.CallRest ts us
   row_call_rest_6 (token A a (phrase i (phrase p (phrase q (phrase r (token B b (phrase s end))))))) = (λ w h. (_, item_call h (arg_method a (alt_of i p q r).1 b) s.3 s.4))
 
@@ -169,10 +195,13 @@ module _ (law : Law) where
 
   pub row_call_args_0 : {ts us : List Lexeme} → Means ([]) ts us → MeansPart P.CallArgs ts us
   row_call_args_0 end = (_, _, _, no_args, no_sections)
+
   pub row_call_args_1 : {ts us : List Lexeme} → Means (IDENTIFIER ∷ Goes P.CallIdent ∷ []) ts us → MeansPart P.CallArgs ts us
   row_call_args_1 (token X x (phrase f end)) = args_of (f X x)
+
   pub row_call_args_2 : {ts us : List Lexeme} → Means (NO_IDENT ∷ Goes P.CallArgs ∷ []) ts us → MeansPart P.CallArgs ts us
   row_call_args_2 (token T t (phrase r end)) = (_, _, _, args (arg_term (no_ident_term law T t)) r.3, r.4)
+
   pub row_call_args_3 : {ts us : List Lexeme} → Means (OPEN ∷ Goes P.Item ∷ Goes P.MoreSeq ∷ Goes P.MoreSemi ∷ Goes P.MoreAlt ∷ CLOSE ∷ Goes P.CallArgs ∷ []) ts us → MeansPart P.CallArgs ts us
   row_call_args_3 (token A a (phrase i (phrase p (phrase q (phrase r (token B b (phrase s end))))))) = (_, _, _, args (arg_method a (alt_of i p q r).1 b) s.3, s.4)
 
@@ -185,12 +214,16 @@ module _ (law : Law) where
 
   pub row_call_ident_0 : {ts us : List Lexeme} → Means ([]) ts us → MeansPart P.CallIdent ts us
   row_call_ident_0 end = (λ x h. call_args (arg_term (ident_term law x h)) no_args no_sections)
+
   pub row_call_ident_1 : {ts us : List Lexeme} → Means (COLON ∷ Goes P.Fact ∷ Goes P.Sections ∷ []) ts us → MeansPart P.CallIdent ts us
   row_call_ident_1 (token C c (phrase f (phrase s end))) = (λ x h. call_sections (section h c (facts f.1 s.3)) s.4)
+
   pub row_call_ident_2 : {ts us : List Lexeme} → Means (IDENTIFIER ∷ Goes P.CallIdent ∷ []) ts us → MeansPart P.CallIdent ts us
   row_call_ident_2 (token Y y (phrase f end)) = (λ x h. call_after (ident_term law x h) (args_of (f Y y)))
+
   pub row_call_ident_3 : {ts us : List Lexeme} → Means (NO_IDENT ∷ Goes P.CallArgs ∷ []) ts us → MeansPart P.CallIdent ts us
   row_call_ident_3 (token T t (phrase r end)) = (λ x h. call_args (arg_term (ident_term law x h)) (args (arg_term (no_ident_term law T t)) r.3) r.4)
+
   pub row_call_ident_4 : {ts us : List Lexeme} → Means (OPEN ∷ Goes P.Item ∷ Goes P.MoreSeq ∷ Goes P.MoreSemi ∷ Goes P.MoreAlt ∷ CLOSE ∷ Goes P.CallArgs ∷ []) ts us → MeansPart P.CallIdent ts us
   row_call_ident_4 (token A a (phrase i (phrase p (phrase q (phrase r (token B b (phrase s end))))))) = (λ x h. call_args (arg_term (ident_term law x h)) (args (arg_method a (alt_of i p q r).1 b) s.3) s.4)
 
@@ -204,10 +237,13 @@ module _ (law : Law) where
 
   pub row_sections_0 : {ts us : List Lexeme} → Means ([]) ts us → MeansPart P.Sections ts us
   row_sections_0 end = (_, _, _, no_more_facts, no_sections)
+
   pub row_sections_1 : {ts us : List Lexeme} → Means (AND ∷ Goes P.Fact ∷ Goes P.Sections ∷ []) ts us → MeansPart P.Sections ts us
   row_sections_1 (token A a (phrase f (phrase s end))) = (_, _, _, and_facts a f.1 s.3, s.4)
+
   pub row_sections_2 : {ts us : List Lexeme} → Means (IDENTIFIER ∷ Goes P.SectionIdent ∷ []) ts us → MeansPart P.Sections ts us
   row_sections_2 (token X x (phrase f end)) = f X x
+
   pub row_sections_3 : {ts us : List Lexeme} → Means (LONG ∷ Goes P.Sels ∷ Goes P.OptAtts ∷ Goes P.Sections ∷ []) ts us → MeansPart P.Sections ts us
   row_sections_3 (token N n (phrase ss (phrase xs (phrase s end)))) = (_, _, _, more_facts (fact (long_name law N n) ss.1 xs.1) s.3, s.4)
 
@@ -220,16 +256,22 @@ module _ (law : Law) where
 
   pub row_section_ident_0 : {ts us : List Lexeme} → Means ([]) ts us → MeansPart P.SectionIdent ts us
   row_section_ident_0 end = (λ x h. (_, _, _, more_facts (fact (ident_name law x h) no_sels no_atts) no_more_facts, no_sections))
+
   pub row_section_ident_1 : {ts us : List Lexeme} → Means (COLON ∷ Goes P.Fact ∷ Goes P.Sections ∷ []) ts us → MeansPart P.SectionIdent ts us
   row_section_ident_1 (token C c (phrase f (phrase s end))) = (λ x h. (_, _, _, no_more_facts, sections (section h c (facts f.1 s.3)) s.4))
+
   pub row_section_ident_2 : {ts us : List Lexeme} → Means (OPEN ∷ Goes P.Sel ∷ Goes P.MoreSels ∷ CLOSE ∷ Goes P.OptAtts ∷ Goes P.Sections ∷ []) ts us → MeansPart P.SectionIdent ts us
   row_section_ident_2 (token A a (phrase s (phrase ss (token B b (phrase xs (phrase r end)))))) = (λ x h. (_, _, _, more_facts (fact (ident_name law x h) (sels a s.1 ss.1 b) xs.1) r.3, r.4))
+
   pub row_section_ident_3 : {ts us : List Lexeme} → Means (LEFT ∷ Goes P.Att ∷ Goes P.MoreAtts ∷ RIGHT ∷ Goes P.Sections ∷ []) ts us → MeansPart P.SectionIdent ts us
   row_section_ident_3 (token A a (phrase y (phrase ys (token B b (phrase r end))))) = (λ x h. (_, _, _, more_facts (fact (ident_name law x h) no_sels (some_atts (atts a y.1 ys.1 b))) r.3, r.4))
+
   pub row_section_ident_4 : {ts us : List Lexeme} → Means (AND ∷ Goes P.Fact ∷ Goes P.Sections ∷ []) ts us → MeansPart P.SectionIdent ts us
   row_section_ident_4 (token A a (phrase f (phrase s end))) = (λ x h. (_, _, _, more_facts (fact (ident_name law x h) no_sels no_atts) (and_facts a f.1 s.3), s.4))
+
   pub row_section_ident_5 : {ts us : List Lexeme} → Means (IDENTIFIER ∷ Goes P.SectionIdent ∷ []) ts us → MeansPart P.SectionIdent ts us
   row_section_ident_5 (token Y y (phrase f end)) = (λ x h. fact_then (ident_name law x h) (f Y y))
+
   pub row_section_ident_6 : {ts us : List Lexeme} → Means (LONG ∷ Goes P.Sels ∷ Goes P.OptAtts ∷ Goes P.Sections ∷ []) ts us → MeansPart P.SectionIdent ts us
   row_section_ident_6 (token N n (phrase ss (phrase xs (phrase s end)))) = (λ x h. (_, _, _, more_facts (fact (ident_name law x h) no_sels no_atts) (more_facts (fact (long_name law N n) ss.1 xs.1) s.3), s.4))
 
@@ -245,18 +287,25 @@ module _ (law : Law) where
 
   pub row_match_rest_0 : {ts us : List Lexeme} → Means ([]) ts us → MeansPart P.MatchRest ts us
   row_match_rest_0 end = (λ w h. (_, bare (within law (sort.Only class.Match) sort.Name refl w h) no_suffix))
+
   pub row_match_rest_1 : {ts us : List Lexeme} → Means (QUESTION ∷ []) ts us → MeansPart P.MatchRest ts us
   row_match_rest_1 (token Q q end) = (λ w h. (_, bare (within law (sort.Only class.Match) sort.Name refl w h) (try q)))
+
   pub row_match_rest_2 : {ts us : List Lexeme} → Means (PLUS ∷ []) ts us → MeansPart P.MatchRest ts us
   row_match_rest_2 (token Q q end) = (λ w h. (_, bare (within law (sort.Only class.Match) sort.Name refl w h) (repeat q)))
+
   pub row_match_rest_3 : {ts us : List Lexeme} → Means (LEFT ∷ Goes P.OptNat ∷ RIGHT ∷ []) ts us → MeansPart P.MatchRest ts us
   row_match_rest_3 (token A a (phrase n (token B b end))) = (λ w h. (_, bare (within law (sort.Only class.Match) sort.Name refl w h) (first a (opt_nat n.1) b)))
+
   pub row_match_rest_4 : {ts us : List Lexeme} → Means (PREMISES ∷ Goes P.SubjectName ∷ Goes P.Cases ∷ []) ts us → MeansPart P.MatchRest ts us
   row_match_rest_4 (token P p (phrase f (phrase c end))) = (λ w h. (_, item_match h (f P (inl p)).1 c.1))
+
   pub row_match_rest_5 : {ts us : List Lexeme} → Means (CONCLUSION ∷ Goes P.SubjectName ∷ Goes P.Cases ∷ []) ts us → MeansPart P.MatchRest ts us
   row_match_rest_5 (token P p (phrase f (phrase c end))) = (λ w h. (_, item_match h (f P (inr p)).1 c.1))
+
   pub row_match_rest_6 : {ts us : List Lexeme} → Means (OPEN ∷ TERM ∷ CLOSE ∷ Goes P.Cases ∷ []) ts us → MeansPart P.MatchRest ts us
   row_match_rest_6 (token A a (token T t (token B b (phrase c end)))) = (λ w h. (_, item_match h (subject_term a t b) c.1))
+
   pub row_match_rest_7 : {ts us : List Lexeme} → Means (SUBJECT_NAME ∷ Goes P.Sels ∷ Goes P.OptAtts ∷ Goes P.MoreFacts ∷ Goes P.Cases ∷ []) ts us → MeansPart P.MatchRest ts us
   row_match_rest_7 (token N n (phrase ss (phrase xs (phrase fs (phrase c end))))) = (λ w h. (_, item_match h (subject_facts (within law sort.SubjectName sort.Name refl N n) ss.1 xs.1 fs.1 (other_name n)) c.1))
 
@@ -273,12 +322,16 @@ module _ (law : Law) where
 
   pub row_subject_name_0 : {ts us : List Lexeme} → Means ([]) ts us → MeansPart P.SubjectName ts us
   row_subject_name_0 end = (λ w h. word_alone h)
+
   pub row_subject_name_1 : {ts us : List Lexeme} → Means (OPEN ∷ Goes P.Sel ∷ Goes P.MoreSels ∷ CLOSE ∷ Goes P.OptAtts ∷ Goes P.MoreFacts ∷ []) ts us → MeansPart P.SubjectName ts us
   row_subject_name_1 (token A a (phrase s (phrase ss (token B b (phrase xs (phrase fs end)))))) = (λ w h. (_, subject_facts (word_name law w h) (sels a s.1 ss.1 b) xs.1 fs.1 with_sels))
+
   pub row_subject_name_2 : {ts us : List Lexeme} → Means (LEFT ∷ Goes P.Att ∷ Goes P.MoreAtts ∷ RIGHT ∷ Goes P.MoreFacts ∷ []) ts us → MeansPart P.SubjectName ts us
   row_subject_name_2 (token A a (phrase x (phrase xs (token B b (phrase fs end))))) = (λ w h. (_, subject_facts (word_name law w h) no_sels (some_atts (atts a x.1 xs.1 b)) fs.1 (with_atts x.0 xs.0)))
+
   pub row_subject_name_3 : {ts us : List Lexeme} → Means (AND ∷ Goes P.Fact ∷ Goes P.MoreFacts ∷ []) ts us → MeansPart P.SubjectName ts us
   row_subject_name_3 (token A a (phrase f (phrase fs end))) = (λ w h. (_, subject_facts (word_name law w h) no_sels no_atts (and_facts a f.1 fs.1) with_facts))
+
   pub row_subject_name_4 : {ts us : List Lexeme} → Means (NAME ∷ Goes P.Sels ∷ Goes P.OptAtts ∷ Goes P.MoreFacts ∷ []) ts us → MeansPart P.SubjectName ts us
   row_subject_name_4 (token N n (phrase ss (phrase xs (phrase fs end)))) = (λ w h. (_, subject_facts (word_name law w h) no_sels no_atts (more_facts (fact n ss.1 xs.1) fs.1) with_facts))
 
@@ -299,6 +352,7 @@ module _ (law : Law) where
 
   pub row_more_cases_0 : {ts us : List Lexeme} → Means ([]) ts us → MeansPart P.MoreCases ts us
   row_more_cases_0 end = (_, no_more_cases)
+
   pub row_more_cases_1 : {ts us : List Lexeme} → Means (CASE_BAR ∷ Goes P.Pat ∷ Goes P.MorePats ∷ Goes P.OptFor ∷ ARROW ∷ INTO ∷ Goes P.Item ∷ Goes P.MoreSeq ∷ Goes P.MoreSemi ∷ Goes P.MoreAlt ∷ OUT_OF ∷ Goes P.MoreCases ∷ []) ts us → MeansPart P.MoreCases ts us
   row_more_cases_1 (token W w (phrase p (phrase ps (phrase gs (token A a (token I i (phrase it (phrase x (phrase y (phrase z (token O o (phrase cs end)))))))))))) = (_, more_cases w (case_is p.1 ps.1 gs.1 a i (alt_of it x y z).1 o) cs.1)
 
@@ -309,6 +363,7 @@ module _ (law : Law) where
 
   pub row_pat_0 : {ts us : List Lexeme} → Means (IDENTIFIER ∷ Goes P.PatIdent ∷ []) ts us → MeansPart P.Pat ts us
   row_pat_0 (token X x (phrase f end)) = f X x
+
   pub row_pat_1 : {ts us : List Lexeme} → Means (NO_IDENT ∷ Goes P.Cut ∷ []) ts us → MeansPart P.Pat ts us
   row_pat_1 (token T t (phrase k end)) = (_, pattern_ (no_ident_term law T t) k.1)
 
@@ -319,8 +374,10 @@ module _ (law : Law) where
 
   pub row_pat_ident_0 : {ts us : List Lexeme} → Means ([]) ts us → MeansPart P.PatIdent ts us
   row_pat_ident_0 end = (λ x h. (_, pattern_ (ident_term law x h) no_cut))
+
   pub row_pat_ident_1 : {ts us : List Lexeme} → Means (COLON ∷ TERM ∷ Goes P.Cut ∷ []) ts us → MeansPart P.PatIdent ts us
   row_pat_ident_1 (token C c (token T t (phrase k end))) = (λ x h. (_, named_pattern h c t k.1))
+
   pub row_pat_ident_2 : {ts us : List Lexeme} → Means (OPEN ∷ CUT ∷ Goes P.OptNat ∷ CLOSE ∷ []) ts us → MeansPart P.PatIdent ts us
   row_pat_ident_2 (token A a (token W w (phrase n (token B b end)))) = (λ x h. (_, pattern_ (ident_term law x h) (a_cut a w (opt_nat n.1) b)))
 
@@ -332,6 +389,7 @@ module _ (law : Law) where
 
   pub row_cut_0 : {ts us : List Lexeme} → Means ([]) ts us → MeansPart P.Cut ts us
   row_cut_0 end = (_, no_cut)
+
   pub row_cut_1 : {ts us : List Lexeme} → Means (OPEN ∷ CUT ∷ Goes P.OptNat ∷ CLOSE ∷ []) ts us → MeansPart P.Cut ts us
   row_cut_1 (token A a (token W w (phrase n (token B b end)))) = (_, a_cut a w (opt_nat n.1) b)
 
@@ -342,6 +400,7 @@ module _ (law : Law) where
 
   pub row_more_pats_0 : {ts us : List Lexeme} → Means ([]) ts us → MeansPart P.MorePats ts us
   row_more_pats_0 end = (_, no_more_patterns)
+
   pub row_more_pats_1 : {ts us : List Lexeme} → Means (AND ∷ Goes P.Pat ∷ Goes P.MorePats ∷ []) ts us → MeansPart P.MorePats ts us
   row_more_pats_1 (token A a (phrase p (phrase ps end))) = (_, more_patterns a p.1 ps.1)
 

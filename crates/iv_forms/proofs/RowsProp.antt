@@ -1,7 +1,6 @@
 -- Written by tools/outer_means.py from tools/meanings.txt.
 -- What the rows of the table mean.
-use Rattle.std.proofs.Common.{◌≡◌, List, [], ◌∷◌, refl, subst, inl, inr}
-use Rattle.iv_gram.specs.declared.class.Class.TheVariants as class
+use Rattle.std.proofs.Common.{List, [], ◌∷◌, refl, subst, inl, inr}
 use Rattle.iv_gram.specs.declared.class.Sort.TheVariants as sort
 use Rattle.iv_gram.specs.declared.part.Part.TheVariants as P
 use Rattle.iv_gram.specs.declared.part.Symbol.{Symbol}
@@ -28,6 +27,7 @@ module _ (law : Law) where
 
   pub row_pattern_0 : {ts us : List Lexeme} → Means ([]) ts us → MeansPart P.Pattern ts us
   row_pattern_0 end = (_, no_patterns)
+
   pub row_pattern_1 : {ts us : List Lexeme} → Means (OPEN ∷ IS ∷ TERM ∷ Goes P.Terms ∷ CLOSE ∷ []) ts us → MeansPart P.Pattern ts us
   row_pattern_1 (token A a (token W w (token T t (phrase xs (token B b end))))) = (_, patterns a w t xs.1 b)
 
@@ -38,6 +38,7 @@ module _ (law : Law) where
 
   pub row_terms_0 : {ts us : List Lexeme} → Means ([]) ts us → MeansPart P.Terms ts us
   row_terms_0 end = (_, no_more)
+
   pub row_terms_1 : {ts us : List Lexeme} → Means (TERM ∷ Goes P.Terms ∷ []) ts us → MeansPart P.Terms ts us
   row_terms_1 (token T t (phrase xs end)) = (_, one_more t xs.1)
 
@@ -48,8 +49,10 @@ module _ (law : Law) where
 
   pub row_claim_0 : {ts us : List Lexeme} → Means (NAME ∷ Goes P.ClaimName ∷ []) ts us → MeansPart P.Claim ts us
   row_claim_0 (token N n (phrase f end)) = f N n
+
   pub row_claim_1 : {ts us : List Lexeme} → Means (LEFT ∷ Goes P.Att ∷ Goes P.MoreAtts ∷ RIGHT ∷ COLON ∷ Goes P.Prop ∷ []) ts us → MeansPart P.Claim ts us
   row_claim_1 (token A a (phrase x (phrase xs (token B b (token C c (phrase p end)))))) = (_, claim (a_label (bare_label (atts a x.1 xs.1 b) c)) p.1)
+
   pub row_claim_2 : {ts us : List Lexeme} → Means (NO_NAME ∷ Goes P.Pattern ∷ []) ts us → MeansPart P.Claim ts us
   row_claim_2 (token T t (phrase ps end)) = (_, claim no_label (prop (within law sort.NoName sort.Term refl T t) ps.1))
 
@@ -61,10 +64,13 @@ module _ (law : Law) where
 
   pub row_claim_name_0 : {ts us : List Lexeme} → Means ([]) ts us → MeansPart P.ClaimName ts us
   row_claim_name_0 end = (λ n h. (_, claim no_label (prop (name_term law n h) no_patterns)))
+
   pub row_claim_name_1 : {ts us : List Lexeme} → Means (COLON ∷ Goes P.Prop ∷ []) ts us → MeansPart P.ClaimName ts us
   row_claim_name_1 (token C c (phrase p end)) = (λ n h. (_, claim (a_label (named_label h no_atts c)) p.1))
+
   pub row_claim_name_2 : {ts us : List Lexeme} → Means (LEFT ∷ Goes P.Att ∷ Goes P.MoreAtts ∷ RIGHT ∷ COLON ∷ Goes P.Prop ∷ []) ts us → MeansPart P.ClaimName ts us
   row_claim_name_2 (token A a (phrase x (phrase xs (token B b (token C c (phrase p end)))))) = (λ n h. (_, claim (a_label (named_label h (some_atts (atts a x.1 xs.1 b)) c)) p.1))
+
   pub row_claim_name_3 : {ts us : List Lexeme} → Means (OPEN ∷ IS ∷ TERM ∷ Goes P.Terms ∷ CLOSE ∷ []) ts us → MeansPart P.ClaimName ts us
   row_claim_name_3 (token A a (token W w (token T t (phrase xs (token B b end))))) = (λ n h. (_, claim no_label (prop (name_term law n h) (patterns a w t xs.1 b))))
 
@@ -77,8 +83,10 @@ module _ (law : Law) where
 
   pub row_props_0 : {ts us : List Lexeme} → Means (NAME ∷ Goes P.PropsName ∷ []) ts us → MeansPart P.Props ts us
   row_props_0 (token N n (phrase f end)) = f N n
+
   pub row_props_1 : {ts us : List Lexeme} → Means (LEFT ∷ Goes P.Att ∷ Goes P.MoreAtts ∷ RIGHT ∷ COLON ∷ TERM ∷ Goes P.Pattern ∷ Goes P.MoreProps ∷ []) ts us → MeansPart P.Props ts us
   row_props_1 (token A a (phrase x (phrase xs (token B b (token C c (token T t (phrase ps (phrase r end)))))))) = (_, props (group (a_label (bare_label (atts a x.1 xs.1 b) c)) (prop t ps.1) r.3) r.4)
+
   pub row_props_2 : {ts us : List Lexeme} → Means (NO_NAME ∷ Goes P.Pattern ∷ Goes P.MoreProps ∷ []) ts us → MeansPart P.Props ts us
   row_props_2 (token T t (phrase ps (phrase r end))) = (_, props (group no_label (prop (within law sort.NoName sort.Term refl T t) ps.1) r.3) r.4)
 
@@ -90,14 +98,19 @@ module _ (law : Law) where
 
   pub row_props_name_0 : {ts us : List Lexeme} → Means ([]) ts us → MeansPart P.PropsName ts us
   row_props_name_0 end = (λ n h. (_, props (group no_label (prop (name_term law n h) no_patterns) no_more_props) no_more_groups))
+
   pub row_props_name_1 : {ts us : List Lexeme} → Means (COLON ∷ TERM ∷ Goes P.Pattern ∷ Goes P.MoreProps ∷ []) ts us → MeansPart P.PropsName ts us
   row_props_name_1 (token C c (token T t (phrase ps (phrase r end)))) = (λ n h. (_, props (group (a_label (named_label h no_atts c)) (prop t ps.1) r.3) r.4))
+
   pub row_props_name_2 : {ts us : List Lexeme} → Means (LEFT ∷ Goes P.Att ∷ Goes P.MoreAtts ∷ RIGHT ∷ COLON ∷ TERM ∷ Goes P.Pattern ∷ Goes P.MoreProps ∷ []) ts us → MeansPart P.PropsName ts us
   row_props_name_2 (token A a (phrase x (phrase xs (token B b (token C c (token T t (phrase ps (phrase r end)))))))) = (λ n h. (_, props (group (a_label (named_label h (some_atts (atts a x.1 xs.1 b)) c)) (prop t ps.1) r.3) r.4))
+
   pub row_props_name_3 : {ts us : List Lexeme} → Means (OPEN ∷ IS ∷ TERM ∷ Goes P.Terms ∷ CLOSE ∷ Goes P.MoreProps ∷ []) ts us → MeansPart P.PropsName ts us
   row_props_name_3 (token A a (token W w (token T t (phrase xs (token B b (phrase r end)))))) = (λ n h. (_, props (group no_label (prop (name_term law n h) (patterns a w t xs.1 b)) r.3) r.4))
+
   pub row_props_name_4 : {ts us : List Lexeme} → Means (TERM ∷ Goes P.Pattern ∷ Goes P.MoreProps ∷ []) ts us → MeansPart P.PropsName ts us
   row_props_name_4 (token T t (phrase ps (phrase r end))) = (λ n h. (_, props (group no_label (prop (name_term law n h) no_patterns) (more_props (prop t ps.1) r.3)) r.4))
+
   pub row_props_name_5 : {ts us : List Lexeme} → Means (AND ∷ Goes P.Props ∷ []) ts us → MeansPart P.PropsName ts us
   row_props_name_5 (token A a (phrase g end)) = (λ n h. (_, props (group no_label (prop (name_term law n h) no_patterns) no_more_props) (and_props a g.1)))
 
@@ -112,8 +125,10 @@ module _ (law : Law) where
 
   pub row_more_props_0 : {ts us : List Lexeme} → Means ([]) ts us → MeansPart P.MoreProps ts us
   row_more_props_0 end = (_, _, _, no_more_props, no_more_groups)
+
   pub row_more_props_1 : {ts us : List Lexeme} → Means (TERM ∷ Goes P.Pattern ∷ Goes P.MoreProps ∷ []) ts us → MeansPart P.MoreProps ts us
   row_more_props_1 (token T t (phrase ps (phrase r end))) = (_, _, _, more_props (prop t ps.1) r.3, r.4)
+
   pub row_more_props_2 : {ts us : List Lexeme} → Means (AND ∷ Goes P.Props ∷ []) ts us → MeansPart P.MoreProps ts us
   row_more_props_2 (token A a (phrase g end)) = (_, _, _, no_more_props, and_props a g.1)
 
@@ -125,8 +140,10 @@ module _ (law : Law) where
 
   pub row_labelled_term_0 : {ts us : List Lexeme} → Means (NAME ∷ Goes P.TermName ∷ []) ts us → MeansPart P.LabelledTerm ts us
   row_labelled_term_0 (token N n (phrase f end)) = f N n
+
   pub row_labelled_term_1 : {ts us : List Lexeme} → Means (LEFT ∷ Goes P.Att ∷ Goes P.MoreAtts ∷ RIGHT ∷ COLON ∷ TERM ∷ []) ts us → MeansPart P.LabelledTerm ts us
   row_labelled_term_1 (token A a (phrase x (phrase xs (token B b (token C c (token T t end)))))) = (_, T, a_label (bare_label (atts a x.1 xs.1 b) c), t)
+
   pub row_labelled_term_2 : {ts us : List Lexeme} → Means (NO_NAME ∷ []) ts us → MeansPart P.LabelledTerm ts us
   row_labelled_term_2 (token T t end) = (_, T, no_label, within law sort.NoName sort.Term refl T t)
 
@@ -138,8 +155,10 @@ module _ (law : Law) where
 
   pub row_term_name_0 : {ts us : List Lexeme} → Means ([]) ts us → MeansPart P.TermName ts us
   row_term_name_0 end = (λ n h. (_, n, no_label, name_term law n h))
+
   pub row_term_name_1 : {ts us : List Lexeme} → Means (COLON ∷ TERM ∷ []) ts us → MeansPart P.TermName ts us
   row_term_name_1 (token C c (token T t end)) = (λ n h. (_, T, a_label (named_label h no_atts c), t))
+
   pub row_term_name_2 : {ts us : List Lexeme} → Means (LEFT ∷ Goes P.Att ∷ Goes P.MoreAtts ∷ RIGHT ∷ COLON ∷ TERM ∷ []) ts us → MeansPart P.TermName ts us
   row_term_name_2 (token A a (phrase x (phrase xs (token B b (token C c (token T t end)))))) = (λ n h. (_, T, a_label (named_label h (some_atts (atts a x.1 xs.1 b)) c), t))
 
@@ -151,6 +170,7 @@ module _ (law : Law) where
 
   pub row_names_0 : {ts us : List Lexeme} → Means ([]) ts us → MeansPart P.Names ts us
   row_names_0 end = (_, no_more)
+
   pub row_names_1 : {ts us : List Lexeme} → Means (NAME ∷ Goes P.Names ∷ []) ts us → MeansPart P.Names ts us
   row_names_1 (token N n (phrase xs end)) = (_, one_more n xs.1)
 
@@ -161,6 +181,7 @@ module _ (law : Law) where
 
   pub row_idents_0 : {ts us : List Lexeme} → Means ([]) ts us → MeansPart P.Idents ts us
   row_idents_0 end = (_, no_more)
+
   pub row_idents_1 : {ts us : List Lexeme} → Means (IDENTIFIER ∷ Goes P.Idents ∷ []) ts us → MeansPart P.Idents ts us
   row_idents_1 (token X x (phrase xs end)) = (_, one_more x xs.1)
 
@@ -171,6 +192,7 @@ module _ (law : Law) where
 
   pub row_of_type_0 : {ts us : List Lexeme} → Means ([]) ts us → MeansPart P.OfType ts us
   row_of_type_0 end = (_, no_type)
+
   pub row_of_type_1 : {ts us : List Lexeme} → Means (COLONS ∷ TYPE ∷ []) ts us → MeansPart P.OfType ts us
   row_of_type_1 (token C c (token T t end)) = (_, of_type c t)
 
@@ -188,6 +210,7 @@ module _ (law : Law) where
 
   pub row_more_vars_0 : {ts us : List Lexeme} → Means ([]) ts us → MeansPart P.MoreVars ts us
   row_more_vars_0 end = (_, no_more_vars)
+
   pub row_more_vars_1 : {ts us : List Lexeme} → Means (AND ∷ IDENTIFIER ∷ Goes P.Idents ∷ Goes P.OfType ∷ Goes P.MoreVars ∷ []) ts us → MeansPart P.MoreVars ts us
   row_more_vars_1 (token A a (token X x (phrase xs (phrase t (phrase gs end))))) = (_, more_vars a (var_group x xs.1 t.1) gs.1)
 
@@ -198,6 +221,7 @@ module _ (law : Law) where
 
   pub row_opt_for_0 : {ts us : List Lexeme} → Means ([]) ts us → MeansPart P.OptFor ts us
   row_opt_for_0 end = (_, no_for)
+
   pub row_opt_for_1 : {ts us : List Lexeme} → Means (FOR ∷ Goes P.Vars ∷ []) ts us → MeansPart P.OptFor ts us
   row_opt_for_1 (token W w (phrase g end)) = (_, for_vars w g.1)
 
@@ -215,6 +239,7 @@ module _ (law : Law) where
 
   pub row_fix_0 : {ts us : List Lexeme} → Means ([]) ts us → MeansPart P.Fix ts us
   row_fix_0 end = (_, no_fix)
+
   pub row_fix_1 : {ts us : List Lexeme} → Means (OPEN ∷ Goes P.Fixity ∷ CLOSE ∷ []) ts us → MeansPart P.Fix ts us
   row_fix_1 (token A a (phrase f (token B b end))) = (_, fix_is a f.1 b)
 
@@ -225,14 +250,19 @@ module _ (law : Law) where
 
   pub row_fixity_0 : {ts us : List Lexeme} → Means (PLAIN ∷ []) ts us → MeansPart P.Fixity ts us
   row_fixity_0 (token S s end) = (_, plain s)
+
   pub row_fixity_1 : {ts us : List Lexeme} → Means (PREFIX ∷ LEFT ∷ PRIORITY ∷ RIGHT ∷ PRIORITY ∷ []) ts us → MeansPart P.Fixity ts us
   row_fixity_1 (token S s (token A a (token N n (token B b (token M m end))))) = (_, prefix s a n b m)
+
   pub row_fixity_2 : {ts us : List Lexeme} → Means (INFIX ∷ PLAIN ∷ LOW ∷ []) ts us → MeansPart P.Fixity ts us
   row_fixity_2 (token W w (token S s (token N n end))) = (_, infix_is w s n)
+
   pub row_fixity_3 : {ts us : List Lexeme} → Means (INFIXL ∷ PLAIN ∷ LOW ∷ []) ts us → MeansPart P.Fixity ts us
   row_fixity_3 (token W w (token S s (token N n end))) = (_, infixl_is w s n)
+
   pub row_fixity_4 : {ts us : List Lexeme} → Means (INFIXR ∷ PLAIN ∷ LOW ∷ []) ts us → MeansPart P.Fixity ts us
   row_fixity_4 (token W w (token S s (token N n end))) = (_, infixr_is w s n)
+
   pub row_fixity_5 : {ts us : List Lexeme} → Means (BINDER ∷ BINDING ∷ PRIORITY ∷ []) ts us → MeansPart P.Fixity ts us
   row_fixity_5 (token W w (token S s (token N n end))) = (_, binder w s n)
 

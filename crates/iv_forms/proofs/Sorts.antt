@@ -1,7 +1,7 @@
 -- Sets of classes within each other.
-use Rattle.std.proofs.Common.{◌≡◌, refl, Bool, true, false, inl, inr}
-use Rattle.std.specs.Prelude.{◌⊎◌, ◌||◌}
-use Rattle.std.specs.List.{list_any, list_all}
+use Rattle.std.proofs.Common.{◌≡◌, refl, Bool, true, inl, inr}
+use Rattle.std.specs.Prelude.{◌⊎◌}
+use Rattle.std.specs.List.{list_all}
 use Rattle.iv_gram.specs.declared.class.Class.{Class}
 use Rattle.iv_gram.specs.declared.class.Class.TheVariants as class
 use Rattle.iv_gram.specs.declared.class.Sort.{Sort}

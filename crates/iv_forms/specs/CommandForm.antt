@@ -29,7 +29,7 @@ use Rattle.iv_forms.specs.declared.lexeme.Lexeme.{Lexeme}
 use Rattle.iv_forms.specs.Lexeme.{Is, IsA, AreAll}
 use Rattle.iv_forms.specs.FactForm.{IsOptAtts, IsFacts}
 use Rattle.iv_forms.specs.PropForm.{IsOptLabel, IsProp, IsClaim, IsProps, IsOfType, IsVars, IsOptFor}
-use Rattle.iv_forms.specs.MethodForm.{IsOptNat, IsMethod, IsOptMethod}
+use Rattle.iv_forms.specs.MethodForm.{IsMethod, IsOptMethod}
 
 -- NAT?
 pub data IsSomeNat : Option ℕ → List Lexeme → List Lexeme → Type 0 where

@@ -3,3 +3,4 @@ pub mod FactForm
 pub mod PropForm
 pub mod MethodForm
 pub mod CommandForm
+pub mod Readable

@@ -1,7 +1,6 @@
 -- Methods: what tokens are read as which value. `IsR v ts us`: the tokens ts begin with the form R of the value v, and us stand behind it.
 -- After the outer syntax of Isabelle's Reference Manual, in a profile of this project. Written by tools/outer_forms.py from tools/readings.txt.
-use Rattle.std.specs.Prelude.{◌≡◌, ℕ, List, [], ◌∷◌, Option, Some, None}
-use Rattle.iv_lex.specs.declared.cutting.Token.{Token}
+use Rattle.std.specs.Prelude.{ℕ, List, [], ◌∷◌, Option, Some, None}
 use Rattle.iv_gram.specs.declared.class.Class.TheVariants as class
 use Rattle.iv_gram.specs.declared.class.Sort.TheVariants as sort
 use Rattle.iv_forms.specs.declared.fact.Sel.{Sel}
@@ -28,7 +27,7 @@ use Rattle.iv_forms.specs.declared.method.Cases.TheVariants as VCases
 use Rattle.iv_forms.specs.declared.method.Case.{Case}
 use Rattle.iv_forms.specs.declared.method.Case.TheVariants as VCase
 use Rattle.iv_forms.specs.declared.lexeme.Lexeme.{Lexeme}
-use Rattle.iv_forms.specs.Lexeme.{Is, IsA, AreAll}
+use Rattle.iv_forms.specs.Lexeme.{Is, IsA}
 use Rattle.iv_forms.specs.FactForm.{IsSels, IsOptAtts, IsMoreFacts, IsFacts}
 use Rattle.iv_forms.specs.PropForm.{IsOptFor}
 

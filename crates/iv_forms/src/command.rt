@@ -99,18 +99,27 @@ pub struct Obtained {
 pub enum Body {
     /// `theory`: its name and its imports.
     Theory(Token, Items<Token>),
+    /// `end`.
     End,
+    /// `chapter`: its text.
     Chapter(Token),
+    /// `section`: its text.
     Section(Token),
+    /// `subsection`: its text.
     Subsection(Token),
+    /// `subsubsection`: its text.
     Subsubsection(Token),
+    /// `paragraph`: its text.
     Paragraph(Token),
+    /// `subparagraph`: its text.
     Subparagraph(Token),
     /// `text`
     Prose(Token),
+    /// `txt`: its text.
     Txt(Token),
     /// `typedecl`: the parameters and the name.
     Typedecl(Items<Token>, Token),
+    /// `consts`: the constants.
     Consts(Items<Constant>),
     /// `judgment`: the name and the type.
     Judgment(Token, Token),
@@ -118,48 +127,84 @@ pub enum Body {
     Axiomatization(Items<Constant>, Items<Axiom>),
     /// `lemmas`: the name, its attributes and the facts.
     Lemmas(Token, Atts, Items<Fact>),
+    /// `declare`: its facts.
     Declare(Items<Fact>),
+    /// `named_theorems`: the name.
     NamedTheorems(Token),
     /// `method`: the name, the groups of names behind `for`, the parts and the body.
     Method(Token, Items<VarGroup>, Parts, MethodText),
+    /// `lemma`: what it states.
     Lemma(Statement),
+    /// `theorem`: what it states.
     Theorem(Statement),
+    /// `corollary`: what it states.
     Corollary(Statement),
+    /// `proposition`: what it states.
     Proposition(Statement),
+    /// `fix`: the groups of names.
     Fix(Items<VarGroup>),
+    /// `assume`: the groups of propositions.
     Assume(Items<Group>),
+    /// `presume`: the groups of propositions.
     Presume(Items<Group>),
     /// `define`: the name, its type, the label and the term.
     Define(Token, Option<Token>, Option<Label>, Token),
+    /// `note`: the groups of facts.
     Note(Items<NoteGroup>),
+    /// `let`: the equations.
     Let(Items<Equation>),
+    /// `{`.
     LeftBrace,
+    /// `}`.
     RightBrace,
+    /// `next`.
     Next,
+    /// `then`.
     Then,
+    /// `from`: its facts.
     From(Items<Fact>),
+    /// `with`: its facts.
     With(Items<Fact>),
+    /// `have`: what it claims.
     Have(Claim),
+    /// `show`: what it claims.
     Show(Claim),
+    /// `hence`: what it claims.
     Hence(Claim),
+    /// `thus`: what it claims.
     Thus(Claim),
+    /// `obtain`: what it obtains.
     Obtain(Obtained),
+    /// `also`.
     Also,
+    /// `moreover`.
     Moreover,
+    /// `finally`.
     Finally,
+    /// `ultimately`.
     Ultimately,
+    /// `apply`: its method.
     Apply(MethodText),
+    /// `using`: its facts.
     Using(Items<Fact>),
+    /// `defer`: its number, where one is given.
     Defer(Option<u32>),
+    /// `prefer`: its number.
     Prefer(u32),
+    /// `back`.
     Back,
+    /// `proof`: its method, where one is given.
     Proof(Option<MethodText>),
+    /// `qed`: its method, where one is given.
     Qed(Option<MethodText>),
+    /// `by`: its methods.
     By(MethodText, Option<MethodText>),
     /// `.`
     Dot,
     /// `..`
     Dots,
+    /// `done`.
     Done,
+    /// `oops`.
     Oops,
 }

@@ -4,15 +4,17 @@
 pub mod command;
 pub mod fact;
 pub mod items;
+pub mod judge;
 pub mod lexeme;
 pub mod method;
 pub mod prop;
 
+pub use command::{Axiom, Body, Constant, Equation, Fixity, NoteGroup, Obtained, Parts, Statement};
 pub use fact::{Att, Atts, Fact, Mark, Place, Places, Sel, TermPlace, Where};
 pub use items::Items;
 pub use lexeme::Lexeme;
 pub use method::{Arg, Args, Case, Cases, Cut, MethodText, Pattern, Section, Subject};
 pub use prop::{Claim, Group, Label, Prop, VarGroup};
-pub use command::{
-    Axiom, Body, Constant, Equation, Fixity, NoteGroup, Obtained, Parts, Statement,
-};
+
+#[cfg(test)]
+mod tests;
