@@ -1,5 +1,5 @@
 -- Steps of cutting pieces.
-use Rattle.std.proofs.Common.{◌≡◌, ℕ, zero, suc, ◌+◌, ◌<◌, List, [], ◌∷◌, ◌++◌, length, drop, refl, ap, sym, ◌∙◌, subst, arith, append_assoc}
+use Rattle.std.proofs.Common.{◌≡◌, ℕ, zero, suc, ◌+◌, ◌<◌, List, [], ◌∷◌, ◌++◌, length, drop, refl, ap, sym, ◌∙◌, arith, append_assoc}
 use Rattle.std.proofs.lemmas.List.{drop-drop}
 use Rattle.iv_lex.specs.declared.cutting.Token.{Token}
 use Rattle.iv_outer.specs.declared.pieces.Piece.{Piece}
@@ -27,11 +27,11 @@ piece_step ts found at n h is so_far =
     let x = front ts at h in
     let sum : at + 1 + n ≡ at + (n + 1) = omega arith in
     let rest : pieces_from n (at + 1) (drop (at + 1) ts) ≡ pieces_from 0 (at + (n + 1)) (drop (at + (n + 1)) ts) =
-        skipped n (at + 1) (drop (at + 1) ts) ∙ ap (λ r. pieces_from 0 (at + 1 + n) r) (drop-drop n (at + 1) ts) ∙ ap (λ k. pieces_from 0 k (drop k ts)) sum in
+    skipped n (at + 1) (drop (at + 1) ts) ∙ ap (λ r. pieces_from 0 (at + 1 + n) r) (drop-drop n (at + 1) ts) ∙ ap (λ k. pieces_from 0 k (drop k ts)) sum in
     let one : pieces_from 0 at (x.0 ∷ drop (at + 1) ts) ≡ record { first = at; count = n + 1 } ∷ pieces_from n (at + 1) (drop (at + 1) ts) =
-        ap (λ k. record { first = at; count = k + 1 } ∷ pieces_from k (at + 1) (drop (at + 1) ts)) (sym is) in
+    ap (λ k. record { first = at; count = k + 1 } ∷ pieces_from k (at + 1) (drop (at + 1) ts)) (sym is) in
     append_assoc found (record { first = at; count = n + 1 } ∷ []) (pieces_from 0 (at + (n + 1)) (drop (at + (n + 1)) ts))
-      ∙ ap (λ r. found ++ (record { first = at; count = n + 1 } ∷ r)) (sym rest)
-      ∙ ap (λ r. found ++ r) (sym one)
-      ∙ ap (λ r. found ++ pieces_from 0 at r) (sym x.1)
-      ∙ so_far
+    ∙ ap (λ r. found ++ (record { first = at; count = n + 1 } ∷ r)) (sym rest)
+    ∙ ap (λ r. found ++ r) (sym one)
+    ∙ ap (λ r. found ++ pieces_from 0 at r) (sym x.1)
+    ∙ so_far

@@ -1,5 +1,5 @@
 -- The class of a token, by its kind and its text. Of this project.
-use Rattle.std.specs.Prelude.{ℕ, zero, suc, ◌+◌, ◌-◌, ◌*◌, List, [], ◌∷◌, length, drop, Bool, true, false, not, Option, Some, None, ◌&&◌, ◌||◌, ◌==◌, if◌then◌else◌, nat_lt, codes, is_some, unwrap_or}
+use Rattle.std.specs.Prelude.{ℕ, ◌+◌, ◌-◌, ◌*◌, List, [], ◌∷◌, drop, Bool, true, false, not, Option, Some, None, ◌&&◌, ◌||◌, ◌==◌, if◌then◌else◌, nat_lt, codes, is_some, unwrap_or}
 use Rattle.std.specs.List.{prefix_len}
 use Rattle.iv_lex.specs.declared.cutting.Kind.{Kind}
 use Rattle.iv_lex.specs.declared.cutting.Kind.TheVariants as kind

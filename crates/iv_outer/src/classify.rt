@@ -133,13 +133,7 @@ fn behind_dot(text: &[char]) -> &[char]
 {
     match text {
         [] => text,
-        [c, rest @ ..] => {
-            if *c == '.' {
-                rest
-            } else {
-                behind_dot(rest)
-            }
-        }
+        [c, rest @ ..] => { if *c == '.' { rest } else { behind_dot(rest) } }
     }
 }
 

@@ -2,5 +2,15 @@
 #![tactic(auto)]
 
 pub mod classify;
+pub mod opened;
 pub mod pieces;
+pub mod refusal;
 pub mod words;
+
+pub use classify::{class_of, lexeme_of, lexemes};
+pub use pieces::{Piece, split};
+
+#[cfg(test)]
+mod samples;
+#[cfg(test)]
+mod tests;

@@ -1,4 +1,3 @@
-use Rattle.std.proofs.Common.{arith}
 use Rattle.iv_outer.proofs.Numbers.{too_great, value_is}
 use Rattle.iv_outer.proofs.classify.number_of.Goals as goal
 

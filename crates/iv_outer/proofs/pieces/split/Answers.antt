@@ -1,4 +1,4 @@
-use Rattle.std.proofs.Common.{◌≡◌, ◌+◌, ◌≤◌, drop, length, arith, length-drop, ◌∙◌}
+use Rattle.std.proofs.Common.{◌≡◌, ◌+◌, ◌≤◌, drop, length, arith, length-drop}
 use Rattle.iv_outer.specs.Piece.{plain_more}
 use Rattle.iv_outer.proofs.PieceSteps.{piece_step}
 use Rattle.iv_outer.proofs.pieces.split.Goals as goal
