@@ -7,12 +7,12 @@ use std::test::Fail;
 fn nested(rt: &HostRuntime, behind: &[Class]) -> Result<Verdict, Fail> {
     let mut classes = Vec::new(rt.alloc());
     classes.push(Class::Apply)?;
-    for _ in 0..20_000 {
+    for _ in 0..200_000 {
         classes.push(Class::Open)?;
     }
     classes.push(Class::Ident)?;
     classes.extend_from_slice(behind)?;
-    for _ in 0..20_000 {
+    for _ in 0..200_000 {
         classes.push(Class::Close)?;
     }
     Ok(read(rt.alloc(), Part::Command, &classes)?)
@@ -24,7 +24,7 @@ fn nested_parentheses(rt: HostRuntime) -> Result<(), Fail> {
     assert_eq!(rt; nested(&rt, &[Class::Open, Class::Minus])?, Verdict::Cut);
     assert_eq!(rt;
         nested(&rt, &[Class::Bar, Class::Bar])?,
-        Verdict::Refused(20_003)
+        Verdict::Refused(200_003)
     );
     Ok(())
 }
