@@ -1,5 +1,8 @@
 #!/usr/bin/env python3
-"""Writes the way from the forms back to the table, from `back.txt`."""
+"""Writes the way from the forms back to the table, from `back.txt`.
+
+Then `rt tidy` in the crate, which drops imports and lays out.
+"""
 import os
 import re
 

@@ -1,5 +1,8 @@
 #!/usr/bin/env python3
-"""Writes the relations of `iv_forms` from `readings.txt`: the forms, each with what it reads."""
+"""Writes the relations of `iv_forms` from `readings.txt`: the forms, each with what it reads.
+
+Then `rt tidy` in the crate, which drops imports and lays out.
+"""
 import os
 import re
 import sys

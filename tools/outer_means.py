@@ -1,5 +1,8 @@
 #!/usr/bin/env python3
-"""Writes what each row of the table means, from `forms.txt` and `meanings.txt`."""
+"""Writes what each row of the table means, from `forms.txt` and `meanings.txt`.
+
+Then `rt tidy` in the crate, which drops imports and lays out.
+"""
 import os
 import re
 

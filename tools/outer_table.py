@@ -4,6 +4,8 @@
     outer_table.py check            follow sets, samples and conflicts
     outer_table.py write            the generated files of `iv_gram`
     outer_table.py judge DOCUMENT   each piece of a document with its place of refusal, by the table
+
+Then `rt tidy` in the crate, which drops imports and lays out.
 """
 import os
 import re

@@ -1,5 +1,8 @@
 #!/usr/bin/env python3
-"""Writes the words of the outer syntax with their classes, for `iv_outer`."""
+"""Writes the words of the outer syntax with their classes, for `iv_outer`.
+
+Then `rt tidy` in the crate, which drops imports and lays out.
+"""
 import os
 
 import outer_table as T

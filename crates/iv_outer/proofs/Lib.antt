@@ -3,3 +3,4 @@ pub mod PieceSteps
 pub mod EncodeSteps
 pub mod OpenSteps
 pub mod PlaceSteps
+pub mod JoinSteps

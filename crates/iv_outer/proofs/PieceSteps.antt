@@ -6,13 +6,13 @@ use Rattle.iv_outer.specs.declared.pieces.Piece.{Piece}
 use Rattle.iv_outer.specs.Piece.{pieces_from, plain_more}
 
 -- the tokens of the piece before are skipped
-skipped : (n at : ℕ) (ts : List Token) → pieces_from n at ts ≡ pieces_from 0 (at + n) (drop n ts)
+pub skipped : (n at : ℕ) (ts : List Token) → pieces_from n at ts ≡ pieces_from 0 (at + n) (drop n ts)
 skipped zero at ts = let e : at ≡ at + 0 = omega arith in ap (λ a. pieces_from 0 a ts) e
 skipped (suc n) at [] = refl
 skipped (suc n) at (t ∷ ts) = let e : at + 1 + n ≡ at + suc n = omega arith in skipped n (at + 1) ts ∙ ap (λ a. pieces_from 0 a (drop n ts)) e
 
 -- the token at an index
-front : (ts : List Token) (at : ℕ) → at < length ts → (t : Token) × (drop at ts ≡ t ∷ drop (at + 1) ts)
+pub front : (ts : List Token) (at : ℕ) → at < length ts → (t : Token) × (drop at ts ≡ t ∷ drop (at + 1) ts)
 front [] at h = absurd (omega arith)
 front (t ∷ ts) zero h = (t, refl)
 front (t ∷ ts) (suc at) h =

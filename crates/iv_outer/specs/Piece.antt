@@ -1,5 +1,5 @@
 -- The pieces of a document: a piece begins at each command word, and what stands before the first is one piece. After the outer syntax of Isabelle's Reference Manual.
-use Rattle.std.specs.Prelude.{ℕ, zero, suc, ◌+◌, List, [], ◌∷◌, Bool, not, nat_lt}
+use Rattle.std.specs.Prelude.{ℕ, zero, suc, ◌+◌, List, [], ◌∷◌, Bool, false, not, nat_lt}
 use Rattle.std.specs.List.{prefix_len}
 use Rattle.iv_lex.specs.declared.cutting.Token.{Token}
 use Rattle.iv_gram.specs.declared.class.Class.{Class}
@@ -29,3 +29,13 @@ pieces_from zero at (t ∷ ts) = record { first = at; count = plain_more ts + 1 
 -- the pieces of some tokens
 abbrev pub pieces_of : List Token → List Piece
 pieces_of ts = pieces_from 0 0 ts
+
+-- whether a piece begins with a command word
+abbrev pub has_word : List Token → Bool
+has_word [] = false
+has_word (t ∷ ts) = begins t
+
+-- the text of the first token
+abbrev pub first_text : List Token → List ℕ
+first_text [] = []
+first_text (t ∷ ts) = t.text

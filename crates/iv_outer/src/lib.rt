@@ -2,13 +2,14 @@
 #![tactic(auto)]
 
 pub mod classify;
+pub mod laws;
 pub mod opened;
 pub mod pieces;
 pub mod refusal;
 pub mod words;
 
 pub use classify::{class_of, lexeme_of, lexemes};
-pub use pieces::{Piece, split};
+pub use pieces::{Piece, split, word};
 
 #[cfg(test)]
 mod samples;
