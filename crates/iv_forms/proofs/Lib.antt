@@ -1,0 +1,16 @@
+pub mod Sorts
+pub mod Means
+pub mod Helpers
+pub mod RowsFact
+pub mod RowsProp
+pub mod RowsMethod
+pub mod RowsCommand
+pub mod RowsWord
+pub mod Closed
+pub mod Splits
+pub mod BackFact
+pub mod BackProp
+pub mod BackMethod
+pub mod BackCommand
+pub mod BackForm
+pub mod Verdicts

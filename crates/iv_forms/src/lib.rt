@@ -1,0 +1,20 @@
+//! The forms of the outer syntax: typed commands, and what tokens are read as which.
+#![tactic(auto)]
+
+pub mod command;
+pub mod fact;
+pub mod items;
+pub mod judge;
+pub mod lexeme;
+pub mod method;
+pub mod prop;
+
+pub use command::{Axiom, Body, Constant, Equation, Fixity, NoteGroup, Obtained, Parts, Statement};
+pub use fact::{Att, Atts, Fact, Mark, Place, Places, Sel, TermPlace, Where};
+pub use items::Items;
+pub use lexeme::Lexeme;
+pub use method::{Arg, Args, Case, Cases, Cut, MethodText, Pattern, Section, Subject};
+pub use prop::{Claim, Group, Label, Prop, VarGroup};
+
+#[cfg(test)]
+mod tests;

@@ -1,0 +1,10 @@
+pub mod Sets
+pub mod Numbers
+pub mod Same
+pub mod Follow
+pub mod Checks
+pub mod Checked
+pub mod Predict
+pub mod Complete
+pub mod Some
+pub mod Judge

@@ -1,0 +1,6 @@
+pub mod Numbers
+pub mod PieceSteps
+pub mod EncodeSteps
+pub mod OpenSteps
+pub mod PlaceSteps
+pub mod JoinSteps

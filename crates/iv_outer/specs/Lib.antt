@@ -1,0 +1,5 @@
+pub mod Words
+pub mod Classify
+pub mod Piece
+pub mod Opened
+pub mod Unreadable
