@@ -1,9 +1,10 @@
 -- The laws in the words of their contracts.
-use Rattle.std.proofs.Common.{◌∙◌, ap}
+use Rattle.std.proofs.Common.{◌∙◌, ap, sym, le_of_eq}
 use Rattle.iv_term.specs.declared.typ.Typ.TheBlock.{Nil}
 use Rattle.iv_term.specs.Typ.{fun, ty_cons}
 use Rattle.iv_hsub.specs.Typing.{types_len, join}
-use Rattle.iv_hsub.specs.Laws.{PutsCommute, HsubsCommute, HsubKeepsTypes, HappKeepsTypes, EtaKeepsTypes, RaiseKeepsTypes, AbstractKeepsTypes, AbstractIsUndone, HhfKeepsTypes}
+use Rattle.iv_hsub.specs.Laws.{LooseIsBounded, BoundsCanGrow, BoundsCanShrink, ClosedStays, PutsCommute, HsubsCommute, HsubKeepsTypes, HappKeepsTypes, EtaKeepsTypes, RaiseKeepsTypes, AbstractKeepsTypes, AbstractIsUndone, HhfKeepsTypes}
+use Rattle.iv_hsub.proofs.Terms.Closed.{raise-closed, loose-term, type_of-front, IsTerm-front, IsTerm-wider}
 use Rattle.iv_hsub.proofs.Terms.Raise.{IsTerm-raise, type_of-raise}
 use Rattle.iv_hsub.proofs.Terms.Eta.{IsTerm-eta}
 use Rattle.iv_hsub.proofs.Terms.Put.{Good, Has, happ-good, hsub-term}
@@ -43,3 +44,15 @@ puts_commute inner between bounds a b w v t p q r = put-put a b inner between bo
 pub hsubs_commute : HsubsCommute
 unfolding Commutes hsub join types_len
 hsubs_commute bounds a b w v t p q r = put-put a b Nil Nil bounds w v t p q r
+
+pub loose_bounded : LooseIsBounded
+loose_bounded = loose-term
+
+pub bounds_grow : BoundsCanGrow
+bounds_grow bounds outer c t p = (IsTerm-wider bounds outer t p.0, type_of-front bounds outer t (loose-term bounds t p.0) ∙ p.1)
+
+pub bounds_shrink : BoundsCanShrink
+bounds_shrink bounds outer c t q p = (IsTerm-front bounds outer t q p.0, sym (type_of-front bounds outer t q) ∙ p.1)
+
+pub closed_stays : ClosedStays
+closed_stays n t e = raise-closed n 0 t (le_of_eq e)

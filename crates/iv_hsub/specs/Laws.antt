@@ -1,5 +1,5 @@
 -- What the laws say.
-use Rattle.std.specs.Prelude.{◌≡◌, suc, true}
+use Rattle.std.specs.Prelude.{◌≡◌, ℕ, suc, ◌≤◌, true}
 use Rattle.iv_term.specs.declared.name.Name.{Name}
 use Rattle.iv_term.specs.declared.typ.Typ.{Typ}
 use Rattle.iv_term.specs.declared.typ.Types.{Types}
@@ -9,7 +9,7 @@ use Rattle.iv_term.specs.declared.term.Terms.{Terms}
 use Rattle.iv_term.specs.Typ.{fun, ty_cons}
 use Rattle.iv_term.specs.Term.{imp_head}
 use Rattle.iv_hsub.specs.Typing.{types_len, join, result_type, IsTerm, AreArgs, HasType}
-use Rattle.iv_hsub.specs.Index.{raise, eta}
+use Rattle.iv_hsub.specs.Index.{loose, raise, eta}
 use Rattle.iv_hsub.specs.Hsub.{put, happ, hsub}
 use Rattle.iv_hsub.specs.Abstract.{free, abstract_over}
 use Rattle.iv_hsub.specs.Hhf.{all_head, is_imp, is_all, bound_type, one, hhf, IsHhf}
@@ -29,6 +29,20 @@ EtaKeepsTypes = (bounds : Types) (a c : Typ) (b : Term) → HasType (ty_cons a b
 -- under one more binder a raised term is a term of its type
 abbrev pub RaiseKeepsTypes : Type 0
 RaiseKeepsTypes = (bounds : Types) (a c : Typ) (t : Term) → HasType bounds c t → HasType (ty_cons a bounds) c (raise 1 0 t)
+
+-- a term has no loose index beyond its bounds; bounds beyond its loose indices count for nothing
+abbrev pub LooseIsBounded : Type 0
+LooseIsBounded = (bounds : Types) (t : Term) → IsTerm bounds t → loose t ≤ types_len bounds
+
+abbrev pub BoundsCanGrow : Type 0
+BoundsCanGrow = (bounds outer : Types) (c : Typ) (t : Term) → HasType bounds c t → HasType (join bounds outer) c t
+
+abbrev pub BoundsCanShrink : Type 0
+BoundsCanShrink = (bounds outer : Types) (c : Typ) (t : Term) → loose t ≤ types_len bounds → HasType (join bounds outer) c t → HasType bounds c t
+
+-- what has no loose index is the same under more binders
+abbrev pub ClosedStays : Type 0
+ClosedStays = (n : ℕ) (t : Term) → loose t ≡ 0 → raise n 0 t ≡ t
 
 -- a value of type b put for an outer variable and one of type a for an inner one may be put in either order, where the
 -- outer value is put into the inner one too; `inner` are the types of the variables inside of both, `between` those between them

@@ -1,5 +1,5 @@
 //! The laws of terms that compute, each as the contract of a function that does nothing.
-ghost use Rattle.iv_hsub.specs.Laws.{HsubKeepsTypes, HappKeepsTypes, EtaKeepsTypes, RaiseKeepsTypes, PutsCommute, HsubsCommute, AbstractKeepsTypes, AbstractIsUndone, ImpIsSeen, AllIsSeen, HhfKeepsTypes, HhfHasForm, HhfKeepsForm, HhfIsOnce};
+ghost use Rattle.iv_hsub.specs.Laws.{HsubKeepsTypes, HappKeepsTypes, EtaKeepsTypes, RaiseKeepsTypes, LooseIsBounded, BoundsCanGrow, BoundsCanShrink, ClosedStays, PutsCommute, HsubsCommute, AbstractKeepsTypes, AbstractIsUndone, ImpIsSeen, AllIsSeen, HhfKeepsTypes, HhfHasForm, HhfKeepsForm, HhfIsOnce};
 
 /// Hereditary substitution gives terms: well typed, of the body's type, beta-normal and eta-short. So does what
 /// it is made of: a value at arguments, an abstraction that is contracted, and a term under one more binder.
@@ -8,6 +8,15 @@ pub fn substitution_gives_terms()
     ensures happ { HappKeepsTypes }
     ensures eta { EtaKeepsTypes }
     ensures raise { RaiseKeepsTypes }
+{}
+
+/// A term has no loose index beyond its bounds, and bounds that no index reaches count for nothing: a term without
+/// loose indices is one under any bounds, and stays the same under more binders.
+pub fn bounds_beyond_loose_indices_count_for_nothing()
+    ensures loose { LooseIsBounded }
+    ensures grow { BoundsCanGrow }
+    ensures shrink { BoundsCanShrink }
+    ensures closed { ClosedStays }
 {}
 
 /// Two substitutions commute.
