@@ -55,11 +55,18 @@ type Row<'a> = (&'a str, &'a str, &'a str, Status, usize);
 fn documents(rt: HostRuntime) -> Result<(), Fail> {
     let recovered =
         "lemma a: \"PROP A ==> PROP B\" by assumption\noops\nlemma b: \"PROP A ==> PROP A\" by assumption\nend\n";
-    let rows: [Row<'_>; 9] = [
+    let rows: [Row<'_>; 10] = [
         (
             "check",
             "lemma a: \"PROP A ==> PROP A\" by assumption end\n",
             "theorem a: PROP ?A ==> PROP ?A\n",
+            Status::Done,
+            1,
+        ),
+        (
+            "count",
+            "lemma a: \"PROP A ==> PROP A\" by assumption end\n",
+            "theorems 1 refusals 0 ended\n",
             Status::Done,
             1,
         ),
