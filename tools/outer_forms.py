@@ -153,9 +153,9 @@ def constructor(rel, con, rels):
 
 
 VALUES = {
-    'Fact': ('fact', ['Sel', 'Mark', 'Where', 'TermPlace', 'Fact', 'Atts', 'Att', 'Places', 'Place']),
+    'Fact': ('fact', ['Sel', 'Mark', 'Where', 'TermPlace', 'Fact', 'Att', 'Place']),
     'Prop': ('prop', ['Label', 'Prop', 'Claim', 'Group', 'VarGroup']),
-    'Method': ('method', ['Section', 'Subject', 'Cut', 'Pattern', 'MethodText', 'Args', 'Arg', 'Cases', 'Case']),
+    'Method': ('method', ['Section', 'Subject', 'Cut', 'Pattern', 'MethodText', 'Arg', 'Case']),
     'Form': ('command', ['Fixity', 'Constant', 'Axiom', 'Statement', 'Parts', 'NoteGroup', 'Equation', 'Obtained', 'Body']),
 }
 ALIAS = {'MethodText': 'VMethod'}
@@ -207,11 +207,11 @@ def write():
 
 
 BEYOND = '''-- facts that begin with this name are more than the words `premises` and `conclusion` alone
-pub data IsBeyond : Lexeme → List Sel → Atts → List Fact → Type 0 where
-  other_name : {n : Lexeme} {ss : List Sel} {xs : Atts} {fs : List Fact} → Is sort.SubjectName n → IsBeyond n ss xs fs
-  with_sels : {n : Lexeme} {s : Sel} {ss : List Sel} {xs : Atts} {fs : List Fact} → IsBeyond n (s ∷ ss) xs fs
-  with_atts : {n : Lexeme} {ss : List Sel} {fs : List Fact} (x : Att) (xs : Atts) → IsBeyond n ss (VAtts.Cons x xs) fs
-  with_facts : {n : Lexeme} {ss : List Sel} {xs : Atts} {f : Fact} {fs : List Fact} → IsBeyond n ss xs (f ∷ fs)
+pub data IsBeyond : Lexeme → List Sel → List Att → List Fact → Type 0 where
+  other_name : {n : Lexeme} {ss : List Sel} {xs : List Att} {fs : List Fact} → Is sort.SubjectName n → IsBeyond n ss xs fs
+  with_sels : {n : Lexeme} {s : Sel} {ss : List Sel} {xs : List Att} {fs : List Fact} → IsBeyond n (s ∷ ss) xs fs
+  with_atts : {n : Lexeme} {ss : List Sel} {fs : List Fact} (x : Att) (xs : List Att) → IsBeyond n ss (x ∷ xs) fs
+  with_facts : {n : Lexeme} {ss : List Sel} {xs : List Att} {f : Fact} {fs : List Fact} → IsBeyond n ss xs (f ∷ fs)
 
 '''
 

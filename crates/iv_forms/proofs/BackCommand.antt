@@ -16,7 +16,7 @@ use Rattle.std.specs.Prelude.{Option}
 use Rattle.iv_lex.specs.declared.cutting.Token.{Token}
 use Rattle.iv_forms.specs.declared.fact.Sel.{Sel}
 use Rattle.iv_forms.specs.declared.fact.Fact.{Fact}
-use Rattle.iv_forms.specs.declared.fact.Atts.{Atts}
+use Rattle.iv_forms.specs.declared.fact.Att.{Att}
 use Rattle.iv_forms.specs.declared.prop.Label.{Label}
 use Rattle.iv_forms.specs.declared.prop.Prop.{Prop}
 use Rattle.iv_forms.specs.declared.prop.Group.{Group}
@@ -193,11 +193,11 @@ module _ (law : Law) where
   equals_wider (part r (inr (inr (inl e))) d) = part r (inr (inr (inr (inl e)))) d
   equals_wider (part r (inr (inr (inr e))) d) = elim e [ ]
 
-  pub note_label_s : {xs : Atts} {s : List Symbol} {ts us : List Lexeme} → IsOptAtts xs ts us → S (EQUAL ∷ NAME ∷ Goes P.Sels ∷ Goes P.OptAtts ∷ Goes P.NoteMore ∷ s) us → S (Goes P.NoteName ∷ s) ts
+  pub note_label_s : {xs : List Att} {s : List Symbol} {ts us : List Lexeme} → IsOptAtts xs ts us → S (EQUAL ∷ NAME ∷ Goes P.Sels ∷ Goes P.OptAtts ∷ Goes P.NoteMore ∷ s) us → S (Goes P.NoteName ∷ s) ts
   note_label_s no_atts d = part (EQUAL ∷ NAME ∷ Goes P.Sels ∷ Goes P.OptAtts ∷ Goes P.NoteMore ∷ []) (inr (inl refl)) d
   note_label_s (some_atts (atts a x xs b)) d = part (LEFT ∷ Goes P.Att ∷ Goes P.MoreAtts ∷ RIGHT ∷ Goes P.NoteEqual ∷ []) (inr (inr (inl refl))) (word a (att_s law x (more_atts_s law xs (word b (part (EQUAL ∷ NAME ∷ Goes P.Sels ∷ Goes P.OptAtts ∷ Goes P.NoteMore ∷ []) (inr (inl refl)) d)))))
 
-  pub note_fact_s : {ss : List Sel} {xs : Atts} {s : List Symbol} {ts us vs : List Lexeme} → IsSels ss ts us → IsOptAtts xs us vs → S (Goes P.NoteMore ∷ s) vs → S (Goes P.NoteName ∷ s) ts
+  pub note_fact_s : {ss : List Sel} {xs : List Att} {s : List Symbol} {ts us vs : List Lexeme} → IsSels ss ts us → IsOptAtts xs us vs → S (Goes P.NoteMore ∷ s) vs → S (Goes P.NoteName ∷ s) ts
   note_fact_s no_sels no_atts d = notes_wider d
   note_fact_s no_sels (some_atts (atts a x xs b)) d = part (LEFT ∷ Goes P.Att ∷ Goes P.MoreAtts ∷ RIGHT ∷ Goes P.NoteEqual ∷ []) (inr (inr (inl refl))) (word a (att_s law x (more_atts_s law xs (word b (equals_wider d)))))
   note_fact_s (sels a s ss b) xs d = part (OPEN ∷ Goes P.Sel ∷ Goes P.MoreSels ∷ CLOSE ∷ Goes P.OptAtts ∷ Goes P.NoteMore ∷ []) (inr (inr (inr (inl refl)))) (word a (sel_s law s (more_sels_s law ss (word b (opt_atts_s law xs d)))))

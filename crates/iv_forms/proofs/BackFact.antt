@@ -15,9 +15,8 @@ use Rattle.iv_forms.specs.declared.fact.Mark.{Mark}
 use Rattle.iv_forms.specs.declared.fact.Where.{Where}
 use Rattle.iv_forms.specs.declared.fact.TermPlace.{TermPlace}
 use Rattle.iv_forms.specs.declared.fact.Fact.{Fact}
-use Rattle.iv_forms.specs.declared.fact.Atts.{Atts}
 use Rattle.iv_forms.specs.declared.fact.Att.{Att}
-use Rattle.iv_forms.specs.declared.fact.Places.{Places}
+use Rattle.iv_forms.specs.declared.fact.Place.{Place}
 use Rattle.iv_gram.specs.Spell.{word, part}
 use Rattle.iv_forms.proofs.Splits.{by_att, strong_mark, weak_mark}
 use Rattle.iv_forms.proofs.Splits.{S}
@@ -85,11 +84,11 @@ module _ (law : Law) where
     pub fact_s : {v : Fact} {s : List Symbol} {ts us : List Lexeme} → IsFact v ts us → S s us → S (Goes P.Fact ∷ s) ts
     fact_s (fact n ss xs) d = part (NAME ∷ Goes P.Sels ∷ Goes P.OptAtts ∷ []) (inl refl) (word n (sels_s ss (opt_atts_s xs d)))
 
-    pub opt_atts_s : {v : Atts} {s : List Symbol} {ts us : List Lexeme} → IsOptAtts v ts us → S s us → S (Goes P.OptAtts ∷ s) ts
+    pub opt_atts_s : {v : List Att} {s : List Symbol} {ts us : List Lexeme} → IsOptAtts v ts us → S s us → S (Goes P.OptAtts ∷ s) ts
     opt_atts_s no_atts d = part ([]) (inl refl) d
     opt_atts_s (some_atts (atts a x xs b)) d = part (LEFT ∷ Goes P.Att ∷ Goes P.MoreAtts ∷ RIGHT ∷ []) (inr (inl refl)) (word a (att_s x (more_atts_s xs (word b d))))
 
-    pub more_atts_s : {v : Atts} {s : List Symbol} {ts us : List Lexeme} → IsMoreAtts v ts us → S s us → S (Goes P.MoreAtts ∷ s) ts
+    pub more_atts_s : {v : List Att} {s : List Symbol} {ts us : List Lexeme} → IsMoreAtts v ts us → S s us → S (Goes P.MoreAtts ∷ s) ts
     more_atts_s no_more_atts d = part ([]) (inl refl) d
     more_atts_s (more_atts c x xs) d = part (COMMA ∷ Goes P.Att ∷ Goes P.MoreAtts ∷ []) (inr (inl refl)) (word c (att_s x (more_atts_s xs d)))
 
@@ -102,7 +101,7 @@ module _ (law : Law) where
     att_s (where_are w (where_is x e t) es) d = part (WHERE ∷ IDENTIFIER ∷ EQUAL ∷ TERM ∷ Goes P.MoreWheres ∷ []) (inr (inr (inr (inl refl)))) (word w (word x (word e (word t (more_wheres_s es d)))))
     att_s (att_name {n = t} n m) d = name_att t n m d
 
-    pub places_s : {v : Places} {s : List Symbol} {ts us : List Lexeme} → IsPlaces v ts us → S s us → S (Goes P.FactPlaces ∷ s) ts
+    pub places_s : {v : List Place} {s : List Symbol} {ts us : List Lexeme} → IsPlaces v ts us → S s us → S (Goes P.FactPlaces ∷ s) ts
     places_s no_places d = part ([]) (inl refl) d
     places_s (places (fact_given (fact n ss xs)) ps) d = part (NAME ∷ Goes P.Sels ∷ Goes P.OptAtts ∷ Goes P.FactPlaces ∷ []) (inr (inl refl)) (word n (sels_s ss (opt_atts_s xs (places_s ps d))))
     places_s (places (fact_hole h) ps) d = part (DUMMY ∷ Goes P.FactPlaces ∷ []) (inr (inr (inl refl))) (word h (places_s ps d))

@@ -11,14 +11,14 @@ use Rattle.iv_forms.proofs.Sorts.{Law}
 use Rattle.std.specs.Prelude.{Option}
 use Rattle.iv_forms.specs.declared.fact.Sel.{Sel}
 use Rattle.iv_forms.specs.declared.fact.Fact.{Fact}
-use Rattle.iv_forms.specs.declared.fact.Atts.{Atts}
+use Rattle.iv_forms.specs.declared.fact.Att.{Att}
 use Rattle.iv_forms.specs.declared.method.Section.{Section}
 use Rattle.iv_forms.specs.declared.method.Subject.{Subject}
 use Rattle.iv_forms.specs.declared.method.Cut.{Cut}
 use Rattle.iv_forms.specs.declared.method.Pattern.{Pattern}
 use Rattle.iv_forms.specs.declared.method.MethodText.{MethodText}
-use Rattle.iv_forms.specs.declared.method.Args.{Args}
-use Rattle.iv_forms.specs.declared.method.Cases.{Cases}
+use Rattle.iv_forms.specs.declared.method.Arg.{Arg}
+use Rattle.iv_forms.specs.declared.method.Case.{Case}
 use Rattle.iv_gram.specs.declared.class.Class.{Class}
 use Rattle.iv_gram.specs.Table.{forms}
 use Rattle.iv_gram.specs.Spell.{Spells, word, part}
@@ -56,7 +56,7 @@ module _ (law : Law) where
   sections_wider (part r (inr (inr (inr (inl e)))) d) = part r (inr (inr (inr (inr (inr (inr (inl e))))))) d
   sections_wider (part r (inr (inr (inr (inr e)))) d) = elim e [ ]
 
-  pub section_ident : {ss : List Sel} {xs : Atts} {s : List Symbol} {ts us vs : List Lexeme} → IsSels ss ts us → IsOptAtts xs us vs → S (Goes P.Sections ∷ s) vs → S (Goes P.SectionIdent ∷ s) ts
+  pub section_ident : {ss : List Sel} {xs : List Att} {s : List Symbol} {ts us vs : List Lexeme} → IsSels ss ts us → IsOptAtts xs us vs → S (Goes P.Sections ∷ s) vs → S (Goes P.SectionIdent ∷ s) ts
   section_ident no_sels no_atts d = sections_wider d
   section_ident no_sels (some_atts (atts a x xs b)) d = part (LEFT ∷ Goes P.Att ∷ Goes P.MoreAtts ∷ RIGHT ∷ Goes P.Sections ∷ []) (inr (inr (inr (inl refl)))) (word a (att_s law x (more_atts_s law xs (word b d))))
   section_ident (sels a s ss b) xs d = part (OPEN ∷ Goes P.Sel ∷ Goes P.MoreSels ∷ CLOSE ∷ Goes P.OptAtts ∷ Goes P.Sections ∷ []) (inr (inr (inl refl))) (word a (sel_s law s (more_sels_s law ss (word b (opt_atts_s law xs d)))))
@@ -80,7 +80,7 @@ module _ (law : Law) where
   subject_wider (part r (inr (inr (inl e))) d) = part r (inr (inr (inr (inr (inl e))))) d
   subject_wider (part r (inr (inr (inr e))) d) = elim e [ ]
 
-  pub subject_name_s : {ss : List Sel} {xs : Atts} {fs : List Fact} {s : List Symbol} {ts us vs ws : List Lexeme} → IsSels ss ts us → IsOptAtts xs us vs → IsMoreFacts fs vs ws → S s ws → S (Goes P.SubjectName ∷ s) ts
+  pub subject_name_s : {ss : List Sel} {xs : List Att} {fs : List Fact} {s : List Symbol} {ts us vs ws : List Lexeme} → IsSels ss ts us → IsOptAtts xs us vs → IsMoreFacts fs vs ws → S s ws → S (Goes P.SubjectName ∷ s) ts
   subject_name_s no_sels no_atts fs d = subject_wider (more_facts_s law fs d)
   subject_name_s no_sels (some_atts (atts a x xs b)) fs d = part (LEFT ∷ Goes P.Att ∷ Goes P.MoreAtts ∷ RIGHT ∷ Goes P.MoreFacts ∷ []) (inr (inr (inl refl))) (word a (att_s law x (more_atts_s law xs (word b (more_facts_s law fs d)))))
   subject_name_s (sels a s ss b) xs fs d = part (OPEN ∷ Goes P.Sel ∷ Goes P.MoreSels ∷ CLOSE ∷ Goes P.OptAtts ∷ Goes P.MoreFacts ∷ []) (inr (inl refl)) (word a (sel_s law s (more_sels_s law ss (word b (opt_atts_s law xs (more_facts_s law fs d))))))
@@ -133,7 +133,7 @@ module _ (law : Law) where
     item_s (item_sections n (section x c (facts f fs)) xs) d = part (CALL_NAME ∷ Goes P.CallRest ∷ []) (inr (inr (inl refl))) (word n (part (IDENTIFIER ∷ Goes P.CallIdent ∷ []) (inr (inr (inr (inr (inl refl))))) (word x (part (COLON ∷ Goes P.Fact ∷ Goes P.Sections ∷ []) (inr (inl refl)) (word c (fact_s law f (section_facts_s fs (sections_s xs d))))))))
     item_s (item_match w s cs) d = part (MATCH ∷ Goes P.MatchRest ∷ []) (inr (inl refl)) (word w (subject_s s (cases_s cs d)))
 
-    pub args_s : {es : Args} {s : List Symbol} {ts us : List Lexeme} → IsArgs es ts us → S (Goes P.CallArgs ∷ s) us → S (Goes P.CallArgs ∷ s) ts
+    pub args_s : {es : List Arg} {s : List Symbol} {ts us : List Lexeme} → IsArgs es ts us → S (Goes P.CallArgs ∷ s) us → S (Goes P.CallArgs ∷ s) ts
     args_s no_args d = d
     args_s (args (arg_term {t = t} h) es) d = by_ident law t h (λ i. part (IDENTIFIER ∷ Goes P.CallIdent ∷ []) (inr (inl refl)) (word i (args_wider (args_s es d)))) (λ n. part (NO_IDENT ∷ Goes P.CallArgs ∷ []) (inr (inr (inl refl))) (word n (args_s es d)))
     args_s (args (arg_method a (alt (semi (seq i p) q) r) b) es) d = part (OPEN ∷ Goes P.Item ∷ Goes P.MoreSeq ∷ Goes P.MoreSemi ∷ Goes P.MoreAlt ∷ CLOSE ∷ Goes P.CallArgs ∷ []) (inr (inr (inr (inl refl)))) (word a (item_s i (more_seq_s p (more_semi_s q (more_alt_s r (word b (args_s es d)))))))
@@ -150,10 +150,10 @@ module _ (law : Law) where
     more_alt_s no_bar d = part ([]) (inl refl) d
     more_alt_s (bar c (semi (seq i p) q) r) d = part (BAR ∷ Goes P.Item ∷ Goes P.MoreSeq ∷ Goes P.MoreSemi ∷ Goes P.MoreAlt ∷ []) (inr (inl refl)) (word c (item_s i (more_seq_s p (more_semi_s q (more_alt_s r d)))))
 
-    pub cases_s : {v : Cases} {s : List Symbol} {ts us : List Lexeme} → IsCases v ts us → S s us → S (Goes P.Cases ∷ s) ts
+    pub cases_s : {v : List Case} {s : List Symbol} {ts us : List Lexeme} → IsCases v ts us → S s us → S (Goes P.Cases ∷ s) ts
     cases_s (cases w (case_is p ps gs a i (alt (semi (seq it x) y) z) o) cs) d = part (IN ∷ Goes P.Pat ∷ Goes P.MorePats ∷ Goes P.OptFor ∷ ARROW ∷ INTO ∷ Goes P.Item ∷ Goes P.MoreSeq ∷ Goes P.MoreSemi ∷ Goes P.MoreAlt ∷ OUT_OF ∷ Goes P.MoreCases ∷ []) (inl refl) (word w (pattern_s p (more_patterns_s ps (opt_for_s law gs (word a (word i (item_s it (more_seq_s x (more_semi_s y (more_alt_s z (word o (more_cases_s cs d))))))))))))
 
-    pub more_cases_s : {v : Cases} {s : List Symbol} {ts us : List Lexeme} → IsMoreCases v ts us → S s us → S (Goes P.MoreCases ∷ s) ts
+    pub more_cases_s : {v : List Case} {s : List Symbol} {ts us : List Lexeme} → IsMoreCases v ts us → S s us → S (Goes P.MoreCases ∷ s) ts
     more_cases_s no_more_cases d = part ([]) (inl refl) d
     more_cases_s (more_cases w (case_is p ps gs a i (alt (semi (seq it x) y) z) o) cs) d = part (CASE_BAR ∷ Goes P.Pat ∷ Goes P.MorePats ∷ Goes P.OptFor ∷ ARROW ∷ INTO ∷ Goes P.Item ∷ Goes P.MoreSeq ∷ Goes P.MoreSemi ∷ Goes P.MoreAlt ∷ OUT_OF ∷ Goes P.MoreCases ∷ []) (inr (inl refl)) (word w (pattern_s p (more_patterns_s ps (opt_for_s law gs (word a (word i (item_s it (more_seq_s x (more_semi_s y (more_alt_s z (word o (more_cases_s cs d))))))))))))
 

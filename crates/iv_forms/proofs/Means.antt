@@ -10,14 +10,13 @@ use Rattle.iv_gram.specs.declared.part.Part.TheVariants as P
 use Rattle.iv_gram.specs.declared.part.Symbol.{Symbol}
 use Rattle.iv_gram.specs.declared.part.Symbol.TheVariants.{Word, Goes}
 use Rattle.iv_gram.specs.Class.{has}
-use Rattle.iv_forms.specs.declared.fact.Atts.{Atts}
+use Rattle.iv_forms.specs.declared.fact.Att.{Att}
 use Rattle.iv_forms.specs.declared.prop.Label.{Label}
 use Rattle.iv_forms.specs.declared.prop.Prop.{Prop}
 use Rattle.iv_forms.specs.declared.prop.Group.{Group}
 use Rattle.iv_forms.specs.declared.prop.VarGroup.{VarGroup}
 use Rattle.iv_forms.specs.declared.method.Section.{Section}
 use Rattle.iv_forms.specs.declared.method.MethodText.{MethodText}
-use Rattle.iv_forms.specs.declared.method.Args.{Args}
 use Rattle.iv_forms.specs.declared.method.Arg.{Arg}
 use Rattle.iv_forms.specs.declared.command.Parts.{Parts}
 use Rattle.iv_forms.specs.declared.lexeme.Lexeme.{Lexeme}
@@ -37,7 +36,7 @@ Both_of {A = A} {B = B} R S ts us = (v : A) × (w : B) × (mid : List Lexeme) ×
 
 -- arguments and sections of a call, one at least
 pub data Called : List Lexeme → List Lexeme → Type 0 where
-  call_args : {e : Arg} {es : Args} {xs : List Section} {ts us vs ws : List Lexeme} → IsArg e ts us → IsArgs es us vs → IsSections xs vs ws → Called ts ws
+  call_args : {e : Arg} {es : List Arg} {xs : List Section} {ts us vs ws : List Lexeme} → IsArg e ts us → IsArgs es us vs → IsSections xs vs ws → Called ts ws
   call_sections : {x : Section} {xs : List Section} {ts us vs : List Lexeme} → IsSection x ts us → IsSections xs us vs → Called ts vs
 
 -- a statement behind its label
@@ -141,7 +140,7 @@ MeansPart P.Stated ts us = Told ts us
 MeansPart P.OptAssumes ts us = Some_of IsAssumes ts us
 MeansPart P.MoreEquations ts us = Some_of IsMoreEquations ts us
 MeansPart P.NoteName ts us = (n : Lexeme) → Is sort.Name n → Some_of IsNotes (n ∷ ts) us
-MeansPart P.NoteEqual ts us = (n : Lexeme) (xs : Atts) (start : List Lexeme) → Is sort.Name n → IsAtts xs start ts → Some_of IsNotes (n ∷ start) us
+MeansPart P.NoteEqual ts us = (n : Lexeme) (xs : List Att) (start : List Lexeme) → Is sort.Name n → IsAtts xs start ts → Some_of IsNotes (n ∷ start) us
 MeansPart P.NoteMore ts us = Both_of IsMoreFacts IsMoreNotes ts us
 MeansPart P.Obtained ts us = Some_of IsObtained ts us
 MeansPart P.ObtainedOne ts us = (x : Lexeme) → Is sort.Identifier x → Some_of IsObtained (x ∷ ts) us

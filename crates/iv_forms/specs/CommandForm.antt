@@ -5,8 +5,7 @@ use Rattle.iv_lex.specs.declared.cutting.Token.{Token}
 use Rattle.iv_gram.specs.declared.class.Class.TheVariants as class
 use Rattle.iv_gram.specs.declared.class.Sort.TheVariants as sort
 use Rattle.iv_forms.specs.declared.fact.Fact.{Fact}
-use Rattle.iv_forms.specs.declared.fact.Atts.{Atts}
-use Rattle.iv_forms.specs.declared.fact.Atts.TheVariants as VAtts
+use Rattle.iv_forms.specs.declared.fact.Att.{Att}
 use Rattle.iv_forms.specs.declared.prop.Label.{Label}
 use Rattle.iv_forms.specs.declared.prop.Prop.{Prop}
 use Rattle.iv_forms.specs.declared.prop.Claim.{Claim}
@@ -71,7 +70,7 @@ pub data IsAxiomConsts : List Constant → List Lexeme → List Lexeme → Type 
 
 -- AXIOM: NAME ATTS? ":" TERM
 pub data IsAxiom : Axiom → List Lexeme → List Lexeme → Type 0 where
-  axiom_is : {n c t : Lexeme} {xs : Atts} {ts us : List Lexeme} → Is sort.Name n → IsOptAtts xs ts (c ∷ t ∷ us) → IsA class.Colon c → Is sort.Term t → IsAxiom (record { name = n.token; atts = xs; term = t.token }) (n ∷ ts) us
+  axiom_is : {n c t : Lexeme} {xs : List Att} {ts us : List Lexeme} → Is sort.Name n → IsOptAtts xs ts (c ∷ t ∷ us) → IsA class.Colon c → Is sort.Term t → IsAxiom (record { name = n.token; atts = xs; term = t.token }) (n ∷ ts) us
 
 -- ("and" AXIOM)*
 pub data IsMoreAxioms : List Axiom → List Lexeme → List Lexeme → Type 0 where
@@ -123,7 +122,7 @@ pub data IsStatement : Statement → List Lexeme → List Lexeme → Type 0 wher
 
 -- LABELNAME "=" FACTS, with LABELNAME a NAME ATTS?
 pub data IsNoteGroup : NoteGroup → List Lexeme → List Lexeme → Type 0 where
-  note_group : {n e : Lexeme} {xs : Atts} {fs : List Fact} {ts us vs : List Lexeme} → Is sort.Name n → IsOptAtts xs ts (e ∷ us) → IsA class.Equal e → IsFacts fs us vs → IsNoteGroup (record { name = Some n.token; atts = xs; facts = fs }) (n ∷ ts) vs
+  note_group : {n e : Lexeme} {xs : List Att} {fs : List Fact} {ts us vs : List Lexeme} → Is sort.Name n → IsOptAtts xs ts (e ∷ us) → IsA class.Equal e → IsFacts fs us vs → IsNoteGroup (record { name = Some n.token; atts = xs; facts = fs }) (n ∷ ts) vs
 
 -- ("and" LABELNAME "=" FACTS)*
 pub data IsMoreNotes : List NoteGroup → List Lexeme → List Lexeme → Type 0 where
@@ -133,7 +132,7 @@ pub data IsMoreNotes : List NoteGroup → List Lexeme → List Lexeme → Type 0
 -- (LABELNAME "=")? FACTS ("and" LABELNAME "=" FACTS)*
 pub data IsNotes : List NoteGroup → List Lexeme → List Lexeme → Type 0 where
   named_notes : {g : NoteGroup} {gs : List NoteGroup} {ts us vs : List Lexeme} → IsNoteGroup g ts us → IsMoreNotes gs us vs → IsNotes (g ∷ gs) ts vs
-  bare_notes : {fs : List Fact} {gs : List NoteGroup} {ts us vs : List Lexeme} → IsFacts fs ts us → IsMoreNotes gs us vs → IsNotes (record { name = None; atts = VAtts.Nil; facts = fs } ∷ gs) ts vs
+  bare_notes : {fs : List Fact} {gs : List NoteGroup} {ts us vs : List Lexeme} → IsFacts fs ts us → IsMoreNotes gs us vs → IsNotes (record { name = None; atts = []; facts = fs } ∷ gs) ts vs
 
 -- TERM "=" TERM
 pub data IsEquation : Equation → List Lexeme → List Lexeme → Type 0 where
@@ -165,7 +164,7 @@ pub data IsForm : Body → List Lexeme → List Lexeme → Type 0 where
   consts : {w : Lexeme} {x : Constant} {xs : List Constant} {ts us vs : List Lexeme} → IsA class.Consts w → IsConst x ts us → IsMoreConsts xs us vs → IsForm (VBody.Consts (x ∷ xs)) (w ∷ ts) vs
   judgment : {w x c t : Lexeme} {ts us : List Lexeme} → IsA class.Judgment w → Is sort.Identifier x → IsA class.Colons c → Is sort.Type t → IsJudgmentForm ts us → IsForm (VBody.Judgment x.token t.token) (w ∷ x ∷ c ∷ t ∷ ts) us
   axiomatization : {w : Lexeme} {cs : List Constant} {xs : List Axiom} {ts us vs : List Lexeme} → IsA class.Axiomatization w → IsAxiomConsts cs ts us → IsAxioms xs us vs → IsForm (VBody.Axiomatization cs xs) (w ∷ ts) vs
-  lemmas : {w n e : Lexeme} {xs : Atts} {fs : List Fact} {ts us vs : List Lexeme} → IsA class.Lemmas w → Is sort.Name n → IsOptAtts xs ts (e ∷ us) → IsA class.Equal e → IsFacts fs us vs → IsForm (VBody.Lemmas n.token xs fs) (w ∷ n ∷ ts) vs
+  lemmas : {w n e : Lexeme} {xs : List Att} {fs : List Fact} {ts us vs : List Lexeme} → IsA class.Lemmas w → Is sort.Name n → IsOptAtts xs ts (e ∷ us) → IsA class.Equal e → IsFacts fs us vs → IsForm (VBody.Lemmas n.token xs fs) (w ∷ n ∷ ts) vs
   declare : {w : Lexeme} {fs : List Fact} {ts us : List Lexeme} → IsA class.Declare w → IsFacts fs ts us → IsForm (VBody.Declare fs) (w ∷ ts) us
   named_theorems : {w x : Lexeme} {ts : List Lexeme} → IsA class.NamedTheorems w → Is sort.Identifier x → IsForm (VBody.NamedTheorems x.token) (w ∷ x ∷ ts) ts
   method_ : {w x e : Lexeme} {gs : List VarGroup} {p : Parts} {m : MethodText} {ts us vs ws : List Lexeme} → IsA class.Method w → Is sort.Identifier x → IsOptFor gs ts us → IsParts p us (e ∷ vs) → IsA class.Equal e → IsMethod m vs ws → IsForm (VBody.Method x.token gs p m) (w ∷ x ∷ ts) ws

@@ -12,12 +12,8 @@ use Rattle.iv_forms.specs.declared.fact.TermPlace.{TermPlace}
 use Rattle.iv_forms.specs.declared.fact.TermPlace.TheVariants as VTermPlace
 use Rattle.iv_forms.specs.declared.fact.Fact.{Fact}
 use Rattle.iv_forms.specs.declared.fact.Fact.TheVariants as VFact
-use Rattle.iv_forms.specs.declared.fact.Atts.{Atts}
-use Rattle.iv_forms.specs.declared.fact.Atts.TheVariants as VAtts
 use Rattle.iv_forms.specs.declared.fact.Att.{Att}
 use Rattle.iv_forms.specs.declared.fact.Att.TheVariants as VAtt
-use Rattle.iv_forms.specs.declared.fact.Places.{Places}
-use Rattle.iv_forms.specs.declared.fact.Places.TheVariants as VPlaces
 use Rattle.iv_forms.specs.declared.fact.Place.{Place}
 use Rattle.iv_forms.specs.declared.fact.Place.TheVariants as VPlace
 use Rattle.iv_forms.specs.declared.lexeme.Lexeme.{Lexeme}
@@ -66,25 +62,25 @@ pub data IsMoreWheres : List Where → List Lexeme → List Lexeme → Type 0 wh
 mutual
   -- FACT: NAME ("(" SEL ("," SEL)* ")")? ATTS?
   pub data IsFact : Fact → List Lexeme → List Lexeme → Type 0 where
-    fact : {n : Lexeme} {ss : List Sel} {xs : Atts} {ts us vs : List Lexeme} → Is sort.Name n → IsSels ss ts us → IsOptAtts xs us vs → IsFact (VFact.Fact n.token ss xs) (n ∷ ts) vs
+    fact : {n : Lexeme} {ss : List Sel} {xs : List Att} {ts us vs : List Lexeme} → Is sort.Name n → IsSels ss ts us → IsOptAtts xs us vs → IsFact (VFact.Fact n.token ss xs) (n ∷ ts) vs
 
   -- ATTS?
-  pub data IsOptAtts : Atts → List Lexeme → List Lexeme → Type 0 where
-    no_atts : {ts : List Lexeme} → IsOptAtts VAtts.Nil ts ts
-    some_atts : {xs : Atts} {ts us : List Lexeme} → IsAtts xs ts us → IsOptAtts xs ts us
+  pub data IsOptAtts : List Att → List Lexeme → List Lexeme → Type 0 where
+    no_atts : {ts : List Lexeme} → IsOptAtts [] ts ts
+    some_atts : {xs : List Att} {ts us : List Lexeme} → IsAtts xs ts us → IsOptAtts xs ts us
 
   -- ATTS: "[" ATT ("," ATT)* "]"
-  pub data IsAtts : Atts → List Lexeme → List Lexeme → Type 0 where
-    atts : {a b : Lexeme} {x : Att} {xs : Atts} {ts us vs : List Lexeme} → IsA class.Left a → IsAtt x ts us → IsMoreAtts xs us (b ∷ vs) → IsA class.Right b → IsAtts (VAtts.Cons x xs) (a ∷ ts) vs
+  pub data IsAtts : List Att → List Lexeme → List Lexeme → Type 0 where
+    atts : {a b : Lexeme} {x : Att} {xs : List Att} {ts us vs : List Lexeme} → IsA class.Left a → IsAtt x ts us → IsMoreAtts xs us (b ∷ vs) → IsA class.Right b → IsAtts (x ∷ xs) (a ∷ ts) vs
 
   -- ("," ATT)*
-  pub data IsMoreAtts : Atts → List Lexeme → List Lexeme → Type 0 where
-    no_more_atts : {ts : List Lexeme} → IsMoreAtts VAtts.Nil ts ts
-    more_atts : {c : Lexeme} {x : Att} {xs : Atts} {ts us vs : List Lexeme} → IsA class.Comma c → IsAtt x ts us → IsMoreAtts xs us vs → IsMoreAtts (VAtts.Cons x xs) (c ∷ ts) vs
+  pub data IsMoreAtts : List Att → List Lexeme → List Lexeme → Type 0 where
+    no_more_atts : {ts : List Lexeme} → IsMoreAtts [] ts ts
+    more_atts : {c : Lexeme} {x : Att} {xs : List Att} {ts us vs : List Lexeme} → IsA class.Comma c → IsAtt x ts us → IsMoreAtts xs us vs → IsMoreAtts (x ∷ xs) (c ∷ ts) vs
 
   -- ATT: "OF" (FACT or "_")+, "THEN" FACT, "of" (TERM or "_")+, "where" IDENT "=" TERM ("and" IDENT "=" TERM)*, or NAME ("!" or "?")?
   pub data IsAtt : Att → List Lexeme → List Lexeme → Type 0 where
-    of_facts : {w : Lexeme} {p : Place} {ps : Places} {ts us vs : List Lexeme} → IsA class.OfFacts w → IsPlace p ts us → IsPlaces ps us vs → IsAtt (VAtt.OfFacts (VPlaces.Cons p ps)) (w ∷ ts) vs
+    of_facts : {w : Lexeme} {p : Place} {ps : List Place} {ts us vs : List Lexeme} → IsA class.OfFacts w → IsPlace p ts us → IsPlaces ps us vs → IsAtt (VAtt.OfFacts (p ∷ ps)) (w ∷ ts) vs
     then_fact : {w : Lexeme} {f : Fact} {ts us : List Lexeme} → IsA class.ThenFact w → IsFact f ts us → IsAtt (VAtt.ThenFact f) (w ∷ ts) us
     of_terms : {w : Lexeme} {p : TermPlace} {ps : List TermPlace} {ts us vs : List Lexeme} → IsA class.OfTerms w → IsTermPlace p ts us → IsTermPlaces ps us vs → IsAtt (VAtt.OfTerms (p ∷ ps)) (w ∷ ts) vs
     where_are : {w : Lexeme} {e : Where} {es : List Where} {ts us vs : List Lexeme} → IsA class.Where w → IsWhere e ts us → IsMoreWheres es us vs → IsAtt (VAtt.Where (e ∷ es)) (w ∷ ts) vs
@@ -96,9 +92,9 @@ mutual
     fact_given : {f : Fact} {ts us : List Lexeme} → IsFact f ts us → IsPlace (VPlace.Fact f) ts us
 
   -- (FACT or "_")*
-  pub data IsPlaces : Places → List Lexeme → List Lexeme → Type 0 where
-    no_places : {ts : List Lexeme} → IsPlaces VPlaces.Nil ts ts
-    places : {p : Place} {ps : Places} {ts us vs : List Lexeme} → IsPlace p ts us → IsPlaces ps us vs → IsPlaces (VPlaces.Cons p ps) ts vs
+  pub data IsPlaces : List Place → List Lexeme → List Lexeme → Type 0 where
+    no_places : {ts : List Lexeme} → IsPlaces [] ts ts
+    places : {p : Place} {ps : List Place} {ts us vs : List Lexeme} → IsPlace p ts us → IsPlaces ps us vs → IsPlaces (p ∷ ps) ts vs
 
 -- ("and"? FACT)*
 pub data IsMoreFacts : List Fact → List Lexeme → List Lexeme → Type 0 where

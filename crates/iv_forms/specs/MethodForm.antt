@@ -6,8 +6,6 @@ use Rattle.iv_gram.specs.declared.class.Sort.TheVariants as sort
 use Rattle.iv_forms.specs.declared.fact.Sel.{Sel}
 use Rattle.iv_forms.specs.declared.fact.Fact.{Fact}
 use Rattle.iv_forms.specs.declared.fact.Fact.TheVariants as VFact
-use Rattle.iv_forms.specs.declared.fact.Atts.{Atts}
-use Rattle.iv_forms.specs.declared.fact.Atts.TheVariants as VAtts
 use Rattle.iv_forms.specs.declared.fact.Att.{Att}
 use Rattle.iv_forms.specs.declared.prop.VarGroup.{VarGroup}
 use Rattle.iv_forms.specs.declared.method.Section.{Section}
@@ -18,12 +16,8 @@ use Rattle.iv_forms.specs.declared.method.Cut.TheVariants as VCut
 use Rattle.iv_forms.specs.declared.method.Pattern.{Pattern}
 use Rattle.iv_forms.specs.declared.method.MethodText.{MethodText}
 use Rattle.iv_forms.specs.declared.method.MethodText.TheVariants as VMethod
-use Rattle.iv_forms.specs.declared.method.Args.{Args}
-use Rattle.iv_forms.specs.declared.method.Args.TheVariants as VArgs
 use Rattle.iv_forms.specs.declared.method.Arg.{Arg}
 use Rattle.iv_forms.specs.declared.method.Arg.TheVariants as VArg
-use Rattle.iv_forms.specs.declared.method.Cases.{Cases}
-use Rattle.iv_forms.specs.declared.method.Cases.TheVariants as VCases
 use Rattle.iv_forms.specs.declared.method.Case.{Case}
 use Rattle.iv_forms.specs.declared.method.Case.TheVariants as VCase
 use Rattle.iv_forms.specs.declared.lexeme.Lexeme.{Lexeme}
@@ -61,18 +55,18 @@ pub data IsSections : List Section → List Lexeme → List Lexeme → Type 0 wh
   sections : {x : Section} {xs : List Section} {ts us vs : List Lexeme} → IsSection x ts us → IsSections xs us vs → IsSections (x ∷ xs) ts vs
 
 -- facts that begin with this name are more than the words `premises` and `conclusion` alone
-pub data IsBeyond : Lexeme → List Sel → Atts → List Fact → Type 0 where
-  other_name : {n : Lexeme} {ss : List Sel} {xs : Atts} {fs : List Fact} → Is sort.SubjectName n → IsBeyond n ss xs fs
-  with_sels : {n : Lexeme} {s : Sel} {ss : List Sel} {xs : Atts} {fs : List Fact} → IsBeyond n (s ∷ ss) xs fs
-  with_atts : {n : Lexeme} {ss : List Sel} {fs : List Fact} (x : Att) (xs : Atts) → IsBeyond n ss (VAtts.Cons x xs) fs
-  with_facts : {n : Lexeme} {ss : List Sel} {xs : Atts} {f : Fact} {fs : List Fact} → IsBeyond n ss xs (f ∷ fs)
+pub data IsBeyond : Lexeme → List Sel → List Att → List Fact → Type 0 where
+  other_name : {n : Lexeme} {ss : List Sel} {xs : List Att} {fs : List Fact} → Is sort.SubjectName n → IsBeyond n ss xs fs
+  with_sels : {n : Lexeme} {s : Sel} {ss : List Sel} {xs : List Att} {fs : List Fact} → IsBeyond n (s ∷ ss) xs fs
+  with_atts : {n : Lexeme} {ss : List Sel} {fs : List Fact} (x : Att) (xs : List Att) → IsBeyond n ss (x ∷ xs) fs
+  with_facts : {n : Lexeme} {ss : List Sel} {xs : List Att} {f : Fact} {fs : List Fact} → IsBeyond n ss xs (f ∷ fs)
 
 -- SUBJECT: "premises", "conclusion", "(" TERM ")", or FACTS that are more than one of these words alone
 pub data IsSubject : Subject → List Lexeme → List Lexeme → Type 0 where
   premises : {w : Lexeme} {ts : List Lexeme} → IsA class.Premises w → IsSubject VSubject.Premises (w ∷ ts) ts
   conclusion : {w : Lexeme} {ts : List Lexeme} → IsA class.Conclusion w → IsSubject VSubject.Conclusion (w ∷ ts) ts
   subject_term : {a t b : Lexeme} {ts : List Lexeme} → IsA class.Open a → Is sort.Term t → IsA class.Close b → IsSubject (VSubject.Term t.token) (a ∷ t ∷ b ∷ ts) ts
-  subject_facts : {n : Lexeme} {ss : List Sel} {xs : Atts} {fs : List Fact} {ts us vs ws : List Lexeme} → Is sort.Name n → IsSels ss ts us → IsOptAtts xs us vs → IsMoreFacts fs vs ws → IsBeyond n ss xs fs → IsSubject (VSubject.Facts (VFact.Fact n.token ss xs ∷ fs)) (n ∷ ts) ws
+  subject_facts : {n : Lexeme} {ss : List Sel} {xs : List Att} {fs : List Fact} {ts us vs ws : List Lexeme} → Is sort.Name n → IsSels ss ts us → IsOptAtts xs us vs → IsMoreFacts fs vs ws → IsBeyond n ss xs fs → IsSubject (VSubject.Facts (VFact.Fact n.token ss xs ∷ fs)) (n ∷ ts) ws
 
 mutual
   -- METHOD: NAME, "-" or "(" ALT ")", then at most one of "?", "+", "[" NAT? "]"
@@ -123,9 +117,9 @@ mutual
   pub data IsItem : MethodText → List Lexeme → List Lexeme → Type 0 where
     item_method : {m : MethodText} {ts us : List Lexeme} → IsMethod m ts us → IsItem m ts us
     item_rule : {w : Lexeme} {fs : List Fact} {ts us : List Lexeme} → IsA class.Rule w → IsFacts fs ts us → IsItem (VMethod.Rule w.token fs) (w ∷ ts) us
-    item_call : {n : Lexeme} {e : Arg} {es : Args} {xs : List Section} {ts us vs ws : List Lexeme} → Is sort.CallName n → IsArg e ts us → IsArgs es us vs → IsSections xs vs ws → IsItem (VMethod.Call n.token (VArgs.Cons e es) xs) (n ∷ ts) ws
-    item_sections : {n : Lexeme} {x : Section} {xs : List Section} {ts us vs : List Lexeme} → Is sort.CallName n → IsSection x ts us → IsSections xs us vs → IsItem (VMethod.Call n.token VArgs.Nil (x ∷ xs)) (n ∷ ts) vs
-    item_match : {w : Lexeme} {s : Subject} {cs : Cases} {ts us vs : List Lexeme} → IsA class.Match w → IsSubject s ts us → IsCases cs us vs → IsItem (VMethod.Match s cs) (w ∷ ts) vs
+    item_call : {n : Lexeme} {e : Arg} {es : List Arg} {xs : List Section} {ts us vs ws : List Lexeme} → Is sort.CallName n → IsArg e ts us → IsArgs es us vs → IsSections xs vs ws → IsItem (VMethod.Call n.token (e ∷ es) xs) (n ∷ ts) ws
+    item_sections : {n : Lexeme} {x : Section} {xs : List Section} {ts us vs : List Lexeme} → Is sort.CallName n → IsSection x ts us → IsSections xs us vs → IsItem (VMethod.Call n.token [] (x ∷ xs)) (n ∷ ts) vs
+    item_match : {w : Lexeme} {s : Subject} {cs : List Case} {ts us vs : List Lexeme} → IsA class.Match w → IsSubject s ts us → IsCases cs us vs → IsItem (VMethod.Match s cs) (w ∷ ts) vs
 
   -- ARG: TERM or "(" ALT ")"
   pub data IsArg : Arg → List Lexeme → List Lexeme → Type 0 where
@@ -133,18 +127,18 @@ mutual
     arg_method : {a b : Lexeme} {m : MethodText} {ts us : List Lexeme} → IsA class.Open a → IsAlt m ts (b ∷ us) → IsA class.Close b → IsArg (VArg.Method m) (a ∷ ts) us
 
   -- ARG*
-  pub data IsArgs : Args → List Lexeme → List Lexeme → Type 0 where
-    no_args : {ts : List Lexeme} → IsArgs VArgs.Nil ts ts
-    args : {e : Arg} {es : Args} {ts us vs : List Lexeme} → IsArg e ts us → IsArgs es us vs → IsArgs (VArgs.Cons e es) ts vs
+  pub data IsArgs : List Arg → List Lexeme → List Lexeme → Type 0 where
+    no_args : {ts : List Lexeme} → IsArgs [] ts ts
+    args : {e : Arg} {es : List Arg} {ts us vs : List Lexeme} → IsArg e ts us → IsArgs es us vs → IsArgs (e ∷ es) ts vs
 
   -- "in" CASE ("\<bar>" CASE)*
-  pub data IsCases : Cases → List Lexeme → List Lexeme → Type 0 where
-    cases : {w : Lexeme} {c : Case} {cs : Cases} {ts us vs : List Lexeme} → IsA class.In w → IsCase c ts us → IsMoreCases cs us vs → IsCases (VCases.Cons c cs) (w ∷ ts) vs
+  pub data IsCases : List Case → List Lexeme → List Lexeme → Type 0 where
+    cases : {w : Lexeme} {c : Case} {cs : List Case} {ts us vs : List Lexeme} → IsA class.In w → IsCase c ts us → IsMoreCases cs us vs → IsCases (c ∷ cs) (w ∷ ts) vs
 
   -- ("\<bar>" CASE)*
-  pub data IsMoreCases : Cases → List Lexeme → List Lexeme → Type 0 where
-    no_more_cases : {ts : List Lexeme} → IsMoreCases VCases.Nil ts ts
-    more_cases : {b : Lexeme} {c : Case} {cs : Cases} {ts us vs : List Lexeme} → IsA class.CaseBar b → IsCase c ts us → IsMoreCases cs us vs → IsMoreCases (VCases.Cons c cs) (b ∷ ts) vs
+  pub data IsMoreCases : List Case → List Lexeme → List Lexeme → Type 0 where
+    no_more_cases : {ts : List Lexeme} → IsMoreCases [] ts ts
+    more_cases : {b : Lexeme} {c : Case} {cs : List Case} {ts us vs : List Lexeme} → IsA class.CaseBar b → IsCase c ts us → IsMoreCases cs us vs → IsMoreCases (c ∷ cs) (b ∷ ts) vs
 
   -- CASE: PAT ("and" PAT)* ("for" VARS)? "=>" and a cartouche that holds an ALT
   pub data IsCase : Case → List Lexeme → List Lexeme → Type 0 where

@@ -4,7 +4,7 @@ use Rattle.std.specs.Prelude.{List, [], ◌∷◌, Option, Some, None}
 use Rattle.iv_lex.specs.declared.cutting.Token.{Token}
 use Rattle.iv_gram.specs.declared.class.Class.TheVariants as class
 use Rattle.iv_gram.specs.declared.class.Sort.TheVariants as sort
-use Rattle.iv_forms.specs.declared.fact.Atts.{Atts}
+use Rattle.iv_forms.specs.declared.fact.Att.{Att}
 use Rattle.iv_forms.specs.declared.prop.Label.{Label}
 use Rattle.iv_forms.specs.declared.prop.Prop.{Prop}
 use Rattle.iv_forms.specs.declared.prop.Claim.{Claim}
@@ -16,8 +16,8 @@ use Rattle.iv_forms.specs.FactForm.{IsOptAtts, IsAtts}
 
 -- LABEL: NAME ATTS? ":", or ATTS ":"
 pub data IsLabel : Label → List Lexeme → List Lexeme → Type 0 where
-  named_label : {n c : Lexeme} {xs : Atts} {ts us : List Lexeme} → Is sort.Name n → IsOptAtts xs ts (c ∷ us) → IsA class.Colon c → IsLabel (record { name = Some n.token; atts = xs }) (n ∷ ts) us
-  bare_label : {xs : Atts} {c : Lexeme} {ts us : List Lexeme} → IsAtts xs ts (c ∷ us) → IsA class.Colon c → IsLabel (record { name = None; atts = xs }) ts us
+  named_label : {n c : Lexeme} {xs : List Att} {ts us : List Lexeme} → Is sort.Name n → IsOptAtts xs ts (c ∷ us) → IsA class.Colon c → IsLabel (record { name = Some n.token; atts = xs }) (n ∷ ts) us
+  bare_label : {xs : List Att} {c : Lexeme} {ts us : List Lexeme} → IsAtts xs ts (c ∷ us) → IsA class.Colon c → IsLabel (record { name = None; atts = xs }) ts us
 
 -- LABEL?
 pub data IsOptLabel : Option Label → List Lexeme → List Lexeme → Type 0 where

@@ -1,4 +1,4 @@
-use crate::fact::{Atts, Fact};
+use crate::fact::{Att, Fact};
 use crate::items::Items;
 use crate::method::MethodText;
 use crate::prop::{Claim, Group, Label, Prop, VarGroup};
@@ -40,7 +40,7 @@ pub struct Axiom {
     /// The name.
     pub name: Token,
     /// The attributes in order.
-    pub atts: Atts,
+    pub atts: Items<Att>,
     /// The proposition.
     pub term: Token,
 }
@@ -71,7 +71,7 @@ pub struct NoteGroup {
     /// The name, where there is one.
     pub name: Option<Token>,
     /// Its attributes in order.
-    pub atts: Atts,
+    pub atts: Items<Att>,
     /// The facts in order, one at least.
     pub facts: Items<Fact>,
 }
@@ -126,7 +126,7 @@ pub enum Body {
     /// `axiomatization`: the constants and the axioms.
     Axiomatization(Items<Constant>, Items<Axiom>),
     /// `lemmas`: the name, its attributes and the facts.
-    Lemmas(Token, Atts, Items<Fact>),
+    Lemmas(Token, Items<Att>, Items<Fact>),
     /// `declare`: its facts.
     Declare(Items<Fact>),
     /// `named_theorems`: the name.

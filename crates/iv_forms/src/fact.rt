@@ -45,25 +45,15 @@ pub enum TermPlace {
 #[cycle(fact)]
 pub enum Fact {
     /// The name, the selections in order, and the attributes in order.
-    Fact(Token, Items<Sel>, Atts),
-}
-
-/// Attributes, in order.
-#[derive(Drop)]
-#[cycle(fact)]
-pub enum Atts {
-    /// No more.
-    Nil,
-    /// One, and those behind it.
-    Cons(Shared<Att>, Shared<Atts>),
+    Fact(Token, Items<Sel>, Items<Att>),
 }
 
 /// An attribute.
 #[derive(Drop)]
 #[cycle(fact)]
 pub enum Att {
-    /// `OF` with its places.
-    OfFacts(Places),
+    /// `OF` with its places, one at least.
+    OfFacts(Items<Place>),
     /// `THEN` with its fact.
     ThenFact(Shared<Fact>),
     /// `of` with its places.
@@ -72,16 +62,6 @@ pub enum Att {
     Where(Items<Where>),
     /// A name and what stands behind it.
     Name(Token, Mark),
-}
-
-/// The places of `OF`, in order.
-#[derive(Drop)]
-#[cycle(fact)]
-pub enum Places {
-    /// No more.
-    Nil,
-    /// One, and those behind it.
-    Cons(Shared<Place>, Shared<Places>),
 }
 
 /// A place of `OF`.

@@ -10,10 +10,10 @@ pub mod method;
 pub mod prop;
 
 pub use command::{Axiom, Body, Constant, Equation, Fixity, NoteGroup, Obtained, Parts, Statement};
-pub use fact::{Att, Atts, Fact, Mark, Place, Places, Sel, TermPlace, Where};
+pub use fact::{Att, Fact, Mark, Place, Sel, TermPlace, Where};
 pub use items::Items;
 pub use lexeme::Lexeme;
-pub use method::{Arg, Args, Case, Cases, Cut, MethodText, Pattern, Section, Subject};
+pub use method::{Arg, Case, Cut, MethodText, Pattern, Section, Subject};
 pub use prop::{Claim, Group, Label, Prop, VarGroup};
 
 #[cfg(test)]

@@ -71,19 +71,9 @@ pub enum MethodText {
     /// `rule`, `erule`, `drule`, `frule`, `intro` or `elim` with its facts.
     Rule(Token, Items<Fact>),
     /// A name with arguments or sections.
-    Call(Token, Args, Items<Section>),
+    Call(Token, Items<Arg>, Items<Section>),
     /// `match` with its cases.
-    Match(Subject, Cases),
-}
-
-/// Arguments of a call, in order.
-#[derive(Drop)]
-#[cycle(method)]
-pub enum Args {
-    /// No more.
-    Nil,
-    /// One, and those behind it.
-    Cons(Shared<Arg>, Shared<Args>),
+    Match(Subject, Items<Case>),
 }
 
 /// An argument of a call.
@@ -94,16 +84,6 @@ pub enum Arg {
     Term(Token),
     /// A method in parentheses.
     Method(Shared<MethodText>),
-}
-
-/// Cases of a `match`, in order.
-#[derive(Drop)]
-#[cycle(method)]
-pub enum Cases {
-    /// No more.
-    Nil,
-    /// One, and those behind it.
-    Cons(Shared<Case>, Shared<Cases>),
 }
 
 /// A case: its patterns, its names, and its method.

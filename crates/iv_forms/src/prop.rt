@@ -1,4 +1,4 @@
-use crate::fact::Atts;
+use crate::fact::Att;
 use crate::items::Items;
 use iv_lex::Token;
 
@@ -8,7 +8,7 @@ pub struct Label {
     /// The name, where there is one.
     pub name: Option<Token>,
     /// The attributes in order.
-    pub atts: Atts,
+    pub atts: Items<Att>,
 }
 
 /// A proposition with its `is` patterns.
