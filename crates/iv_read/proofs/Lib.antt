@@ -1,0 +1,5 @@
+pub mod Steps
+pub mod Sorts
+pub mod Lengths
+pub mod Firsts
+pub mod FactsRead

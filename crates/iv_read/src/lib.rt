@@ -1,0 +1,11 @@
+//! Readers of the forms: tokens that a form reads, as the command that it reads.
+//!
+//! Each reader is a function of its own name in `specs/`, which looks at the next tokens alone. The laws say that it
+//! finds what the forms say, whichever way they say it, so there is one reading.
+#![tactic(auto)]
+
+pub mod facts;
+pub mod stop;
+pub mod tokens;
+
+pub use stop::Stop;
