@@ -59,3 +59,8 @@ one k (t ∷ ts) = if has k t.class then got t ts else wrong
 unfoldable pub many : {A : Type 0} → (List Lexeme → Bool) → (List Lexeme → Found A) → List A → List Lexeme → List Lexeme → Found (List A)
 many goes item found [] ts = got found ts
 many goes item found (_ ∷ steps) ts = if goes ts then then_ (item ts) (λ x us. many goes item (found ++ x ∷ []) steps us) else got found ts
+
+-- a value that is built up, as long as the tokens go on with a part of it; the list says how many may come
+unfoldable pub fold : {A : Type 0} → (List Lexeme → Bool) → (A → List Lexeme → Found A) → A → List Lexeme → List Lexeme → Found A
+fold goes part x [] ts = got x ts
+fold goes part x (_ ∷ steps) ts = if goes ts then then_ (part x ts) (λ y us. fold goes part y steps us) else got x ts

@@ -1,2 +1,3 @@
 pub mod Found
 pub mod Facts
+pub mod Declarations

@@ -4,6 +4,7 @@
 //! finds what the forms say, whichever way they say it, so there is one reading.
 #![tactic(auto)]
 
+pub mod declarations;
 pub mod facts;
 pub mod stop;
 pub mod tokens;
