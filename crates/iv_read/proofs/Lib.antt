@@ -3,3 +3,4 @@ pub mod Sorts
 pub mod Lengths
 pub mod Firsts
 pub mod FactsRead
+pub mod DeclarationsRead
