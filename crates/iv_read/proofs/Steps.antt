@@ -4,7 +4,7 @@ use Rattle.std.proofs.Math.ListN.{drop_of_length-le}
 use Rattle.iv_forms.specs.declared.lexeme.Lexeme.{Lexeme}
 use Rattle.iv_read.specs.declared.stop.Stop.{Stop}
 use Rattle.iv_read.specs.declared.stop.Stop.TheVariants as stop
-use Rattle.iv_read.specs.Found.{Found, got, then_, many, IsStop}
+use Rattle.iv_read.specs.Found.{Found, got, then_, part_at, many, IsStop, stop_at}
 
 -- where the first stops, both do
 pub stopped : {A B : Type 0} (e : Stop) (f : Found A) (next : A → List Lexeme → Found B) → IsStop e f → IsStop e (then_ f next)
@@ -17,6 +17,18 @@ stopped stop.Memory f next h = tt
 pub went_on : {A B : Type 0} {f : Found A} {x : A} {us : List Lexeme} (next : A → List Lexeme → Found B) → f ≡ got x us → then_ f next ≡ next x us
 unfolding then_
 went_on next h = rw h refl
+
+-- a part with a limit of its own stops where it begins
+pub part_stopped : {A : Type 0} (e : Stop) (ts : List Lexeme) (f : Found A) → IsStop e f → IsStop (stop_at e ts) (part_at ts f)
+unfolding part_at
+part_stopped stop.Syntax ts f h = rw h refl
+part_stopped (stop.Deep p) ts f h = rw h refl
+part_stopped stop.Memory ts f h = tt
+
+-- such a part is read as before
+pub part_read : {A : Type 0} {f : Found A} {x : A} {us : List Lexeme} (ts : List Lexeme) → f ≡ got x us → part_at ts f ≡ got x us
+unfolding part_at
+part_read ts h = rw h refl
 
 -- a step that is left
 pub left_over : {A : Type 0} (steps : List A) (i : ℕ) → i < length steps → (s : A) × (drop i steps ≡ s ∷ drop (suc i) steps)

@@ -1,2 +1,4 @@
 pub mod Found
+pub mod FactLevels
 pub mod Facts
+pub mod Props

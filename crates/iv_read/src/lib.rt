@@ -5,6 +5,7 @@
 #![tactic(auto)]
 
 pub mod facts;
+pub mod props;
 pub mod stop;
 pub mod tokens;
 
