@@ -1,4 +1,5 @@
 pub mod Steps
+pub mod Levels
 pub mod Sorts
 pub mod Lengths
 pub mod Firsts

@@ -30,6 +30,12 @@ part_at ts (got x us) = got x us
 part_at ts wrong = wrong
 part_at ts (deep p) = deep (place_of ts)
 
+-- its cause
+abbrev pub stop_at : Stop → List Lexeme → Stop
+stop_at stop.Syntax ts = stop.Syntax
+stop_at (stop.Deep p) ts = stop.Deep (place_of ts)
+stop_at stop.Memory ts = stop.Memory
+
 -- what a part with so many levels is read as, where so many are left
 unfoldable pub held : {A : Type 0} → ℕ → ℕ → List Lexeme → A → List Lexeme → Found A
 held left levels ts x us = if nat_lt left levels then deep (place_of ts) else got x us

@@ -1,3 +1,6 @@
 pub mod Found
+pub mod FactLevels
 pub mod Facts
+pub mod Props
 pub mod Declarations
+pub mod Commands

@@ -4,8 +4,10 @@
 //! finds what the forms say, whichever way they say it, so there is one reading.
 #![tactic(auto)]
 
+pub mod commands;
 pub mod declarations;
 pub mod facts;
+pub mod props;
 pub mod stop;
 pub mod tokens;
 

@@ -1,5 +1,6 @@
 use iv_term::Want;
 use iv_text::Pos;
+use std::alloc::AllocError;
 
 /// Why nothing was read.
 #[derive(Clone, Copy, Debug, PartialEq, Eq)]
@@ -20,6 +21,17 @@ impl From<Want> for Stop {
 
     /// Reading makes no number, so memory is all that it may lack.
     fn from(_lack: Want) -> Stop {
+        Stop::Memory
+    }
+}
+
+impl From<AllocError> for Stop {
+    ghost use Rattle.std.specs.Prelude.{◌≡◌};
+    ghost use Rattle.iv_read.specs.declared.stop.Stop.TheVariants.{Memory};
+
+    ghost from_gives = { λ _ e. e ≡ Memory };
+
+    fn from(_lack: AllocError) -> Stop {
         Stop::Memory
     }
 }

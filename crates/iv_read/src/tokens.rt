@@ -1,13 +1,24 @@
 //! The next tokens.
 ghost use Rattle.std.specs.Prelude.{◌≡◌, true, false, IfOk, IfErr, MatchOption};
 ghost use Rattle.iv_term.specs.declared.want.Want.TheVariants.{Memory};
-ghost use Rattle.iv_read.specs.Found.{got, IsStop, begins, behind, one};
+ghost use Rattle.iv_read.specs.Found.{got, IsStop, begins, behind, one, place_of, stop_at};
 
 use crate::stop::Stop;
 use iv_forms::Lexeme;
 use iv_gram::Sort;
 use iv_lex::Token;
 use iv_term::Mem;
+use iv_text::Pos;
+
+/// Where the first of some tokens begins.
+pub fn place(tokens: &[Lexeme]) -> Pos
+    ensures { result ≡ place_of tokens.now }
+{
+    match tokens {
+        [] => Pos(0),
+        [first, ..] => first.token.at,
+    }
+}
 
 /// Whether the next token is one of a set.
 pub fn begins(tokens: &[Lexeme], sort: Sort) -> bool
@@ -68,4 +79,15 @@ pub fn copied(token: &Token) -> Mem<Token>
         at: token.at,
         end: token.end,
     })
+}
+
+/// The same cause; a part with a limit of its own is too deep where it begins.
+pub fn stop_at(stop: Stop, tokens: &[Lexeme]) -> Stop
+    ensures { result ≡ stop_at stop tokens.now }
+{
+    match stop {
+        Stop::Syntax => Stop::Syntax,
+        Stop::Deep(_) => Stop::Deep(place(tokens)),
+        Stop::Memory => Stop::Memory,
+    }
 }

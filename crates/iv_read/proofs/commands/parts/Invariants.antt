@@ -1,0 +1,7 @@
+use Rattle.std.proofs.Common.{◌≡◌, [], drop}
+use Rattle.iv_read.specs.Found.{fold}
+use Rattle.iv_read.specs.Commands.{begins_part, part, parts}
+use Rattle.iv_read.proofs.commands.parts.Given as goal
+
+abbrev pub invariant-loop-found : goal.invariant-loop-found
+invariant-loop-found l = parts l.fn.tokens ≡ fold begins_part part l.found (drop l._step-index l.tokens) l.rest

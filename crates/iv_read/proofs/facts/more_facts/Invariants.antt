@@ -1,0 +1,9 @@
+use Rattle.std.proofs.Common.{◌≡◌, drop}
+use Rattle.iv_gram.specs.declared.class.Class.TheVariants as class
+use Rattle.iv_gram.specs.declared.class.Sort.TheVariants as sort
+use Rattle.iv_read.specs.Found.{begins, behind, many}
+use Rattle.iv_read.specs.Facts.{goes_fact, next_fact, more_facts}
+use Rattle.iv_read.proofs.facts.more_facts.Given as goal
+
+abbrev pub invariant-loop-step : goal.invariant-loop-step
+invariant-loop-step l = more_facts l.fn.facts l.fn.tokens ≡ many goes_fact next_fact l.facts (drop l._step-index l.tokens) l.rest

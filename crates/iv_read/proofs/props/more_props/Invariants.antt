@@ -1,0 +1,9 @@
+use Rattle.std.proofs.Common.{◌≡◌, drop}
+use Rattle.iv_gram.specs.declared.class.Class.TheVariants as class
+use Rattle.iv_gram.specs.declared.class.Sort.TheVariants as sort
+use Rattle.iv_read.specs.Found.{begins, behind, many}
+use Rattle.iv_read.specs.Props.{prop, more_props}
+use Rattle.iv_read.proofs.props.more_props.Given as goal
+
+abbrev pub invariant-loop-step : goal.invariant-loop-step
+invariant-loop-step l = more_props l.fn.props l.fn.tokens ≡ many (begins sort.Term) prop l.props (drop l._step-index l.tokens) l.rest
