@@ -4,7 +4,7 @@ use Rattle.std.proofs.Math.ListN.{drop_of_length-le}
 use Rattle.iv_forms.specs.declared.lexeme.Lexeme.{Lexeme}
 use Rattle.iv_read.specs.declared.stop.Stop.{Stop}
 use Rattle.iv_read.specs.declared.stop.Stop.TheVariants as stop
-use Rattle.iv_read.specs.Found.{Found, got, then_, part_at, many, IsStop, stop_at}
+use Rattle.iv_read.specs.Found.{Found, got, then_, part_at, many, fold, IsStop, stop_at}
 
 -- where the first stops, both do
 pub stopped : {A B : Type 0} (e : Stop) (f : Found A) (next : A → List Lexeme → Found B) → IsStop e f → IsStop e (then_ f next)

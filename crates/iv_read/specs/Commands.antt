@@ -27,14 +27,14 @@ use Rattle.iv_read.specs.Props.{text_of, some_of, more_of, named_atts, opt_label
 use Rattle.iv_read.specs.Declarations.{some_nat, constant, more_consts, axiom_consts, tvars, judgment_form, equation, more_equations}
 
 -- AXIOM
-unfoldable pub axiom : List Lexeme → Found Axiom
-axiom ts = then_ (named_atts ts) (λ n us. then_ (one (sort.Only class.Colon) us) (λ c vs. then_ (text_of sort.Term vs) (λ t ws. got (record { name = n.name; atts = n.atts; term = t }) ws)))
+unfoldable pub an_axiom : List Lexeme → Found Axiom
+an_axiom ts = then_ (named_atts ts) (λ n us. then_ (one (sort.Only class.Colon) us) (λ c vs. then_ (text_of sort.Term vs) (λ t ws. got (record { name = n.name; atts = n.atts; term = t }) ws)))
 
 unfoldable pub more_axioms : List Axiom → List Lexeme → Found (List Axiom)
-more_axioms found ts = many (begins (sort.Only class.And)) (λ us. axiom (behind us)) found ts ts
+more_axioms found ts = many (begins (sort.Only class.And)) (λ us. an_axiom (behind us)) found ts ts
 
 unfoldable pub axioms : List Lexeme → Found (List Axiom)
-axioms ts = if begins (sort.Only class.Where) ts then then_ (axiom (behind ts)) (λ x us. more_axioms (x ∷ []) us) else got [] ts
+axioms ts = if begins (sort.Only class.Where) ts then then_ (an_axiom (behind ts)) (λ x us. more_axioms (x ∷ []) us) else got [] ts
 
 -- whether a part of `method` stands ahead
 unfoldable pub begins_part : List Lexeme → Bool

@@ -2,7 +2,7 @@
 ghost use Rattle.std.specs.Prelude.{◌≡◌, [], ◌∷◌, IfOk, IfErr};
 ghost use Rattle.iv_read.specs.Found.{got, IsStop};
 ghost use Rattle.iv_read.specs.declared.stop.Stop.TheVariants.{Memory};
-ghost use Rattle.iv_read.specs.Commands.{axiom, more_axioms, axioms, begins_part, part, parts, fixes, assumes, begins_long, statement, note_name, begins_note, goes_noted, next_noted, more_noted, noted, note_group, first_note, more_notes, notes, names_ahead, obtained};
+ghost use Rattle.iv_read.specs.Commands.{an_axiom, more_axioms, axioms, begins_part, part, parts, fixes, assumes, begins_long, statement, note_name, begins_note, goes_noted, next_noted, more_noted, noted, note_group, first_note, more_notes, notes, names_ahead, obtained};
 
 use crate::facts::a_fact;
 use crate::props::{Named, named_atts, opt_label, prop, props, some_of, text_of, vars};
@@ -13,10 +13,10 @@ use iv_gram::{Class, Sort};
 use std::alloc::Global;
 
 /// An axiom.
-#[tactic(auto, using(crate::proofs::Steps::stopped, crate::proofs::Steps::went_on), unfolding(crate::specs::Commands::axiom, crate::specs::Found::then_))]
-fn axiom(alloc: Global, tokens: &[Lexeme]) -> Result<(Axiom, &[Lexeme]), Stop>
-    ensures ok { IfOk result (λ r. axiom tokens.now ≡ got r.0 r.1.now) }
-    ensures err { IfErr result (λ e. IsStop e (axiom tokens.now)) }
+#[tactic(auto, using(crate::proofs::Steps::stopped, crate::proofs::Steps::went_on), unfolding(crate::specs::Commands::an_axiom, crate::specs::Found::then_))]
+fn an_axiom(alloc: Global, tokens: &[Lexeme]) -> Result<(Axiom, &[Lexeme]), Stop>
+    ensures ok { IfOk result (λ r. an_axiom tokens.now ≡ got r.0 r.1.now) }
+    ensures err { IfErr result (λ e. IsStop e (an_axiom tokens.now)) }
 {
     let (named, tokens) = named_atts(alloc, tokens)?;
     let (_colon, tokens) = one(tokens, Sort::Only(Class::Colon))?;
@@ -40,7 +40,7 @@ fn more_axioms<'a>(alloc: Global, tokens: &'a [Lexeme], found: &mut Items<Axiom>
         if !begins(rest, Sort::Only(Class::And)) {
             break;
         }
-        let (next, after) = axiom(alloc, behind(rest))?;
+        let (next, after) = an_axiom(alloc, behind(rest))?;
         found.push(next)?;
         rest = after;
     }
@@ -57,7 +57,7 @@ pub(crate) fn axioms(alloc: Global, tokens: &[Lexeme]) -> Result<(Items<Axiom>, 
     if !begins(tokens, Sort::Only(Class::Where)) {
         return Ok((found, tokens));
     }
-    let (first, tokens) = axiom(alloc, behind(tokens))?;
+    let (first, tokens) = an_axiom(alloc, behind(tokens))?;
     found.push(first)?;
     let tokens = more_axioms(alloc, tokens, &mut found)?;
     Ok((found, tokens))
@@ -198,18 +198,21 @@ pub(crate) fn note_name(alloc: Global, tokens: &[Lexeme]) -> Result<(Named, &[Le
 }
 
 /// Whether a name, attributes and `=` stand ahead. Fails where memory runs out.
+#[tactic(auto, unfolding(crate::specs::Commands::begins_note))]
 fn begins_note(alloc: Global, tokens: &[Lexeme]) -> Result<bool, Stop>
     ensures ok { IfOk result (λ b. b ≡ begins_note tokens.now) }
     ensures memory { IfErr result (λ e. e ≡ Memory) }
 {
     match note_name(alloc, tokens) {
         Ok(_named) => Ok(true),
+        Err(Stop::Syntax) => Ok(false),
+        Err(Stop::Deep(_at)) => Ok(false),
         Err(Stop::Memory) => Err(Stop::Memory),
-        Err(_stop) => Ok(false),
     }
 }
 
 /// Whether facts go on; those of `note` end before `and`, a name and `=`. Fails where memory runs out.
+#[tactic(auto, unfolding(crate::specs::Commands::goes_noted))]
 fn goes_noted(alloc: Global, tokens: &[Lexeme]) -> Result<bool, Stop>
     ensures ok { IfOk result (λ b. b ≡ goes_noted tokens.now) }
     ensures memory { IfErr result (λ e. e ≡ Memory) }

@@ -3,5 +3,5 @@ use Rattle.iv_read.specs.Found.{fold}
 use Rattle.iv_read.specs.Commands.{begins_part, part, parts}
 use Rattle.iv_read.proofs.commands.parts.Given as goal
 
-abbrev pub invariant-loop-found : goal.invariant-loop-found
-invariant-loop-found l = parts l.fn.tokens ≡ fold begins_part part l.found (drop l._step-index l.tokens) l.rest
+abbrev pub invariant-loop-step : goal.invariant-loop-step
+invariant-loop-step l = parts l.fn.tokens ≡ fold begins_part part l.found (drop l._step-index l.tokens) l.rest
