@@ -1,7 +1,9 @@
 pub mod Steps
 pub mod Levels
+pub mod Held
 pub mod Sorts
 pub mod Lengths
 pub mod Firsts
 pub mod FactsRead
 pub mod DeclarationsRead
+pub mod PropsRead

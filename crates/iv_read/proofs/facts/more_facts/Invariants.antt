@@ -1,7 +1,5 @@
 use Rattle.std.proofs.Common.{◌≡◌, drop}
-use Rattle.iv_gram.specs.declared.class.Class.TheVariants as class
-use Rattle.iv_gram.specs.declared.class.Sort.TheVariants as sort
-use Rattle.iv_read.specs.Found.{begins, behind, many}
+use Rattle.iv_read.specs.Found.{many}
 use Rattle.iv_read.specs.Facts.{goes_fact, next_fact, more_facts}
 use Rattle.iv_read.proofs.facts.more_facts.Given as goal
 

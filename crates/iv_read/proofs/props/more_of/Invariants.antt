@@ -1,7 +1,5 @@
 use Rattle.std.proofs.Common.{◌≡◌, drop}
-use Rattle.iv_gram.specs.declared.class.Class.TheVariants as class
-use Rattle.iv_gram.specs.declared.class.Sort.TheVariants as sort
-use Rattle.iv_read.specs.Found.{begins, behind, many}
+use Rattle.iv_read.specs.Found.{begins, many}
 use Rattle.iv_read.specs.Props.{text_of, more_of}
 use Rattle.iv_read.proofs.props.more_of.Given as goal
 
