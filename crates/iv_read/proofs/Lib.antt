@@ -7,3 +7,4 @@ pub mod Firsts
 pub mod FactsRead
 pub mod DeclarationsRead
 pub mod PropsRead
+pub mod CommandsRead

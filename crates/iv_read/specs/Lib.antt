@@ -4,3 +4,4 @@ pub mod Facts
 pub mod Props
 pub mod Declarations
 pub mod Commands
+pub mod CommandLevels

@@ -1,0 +1,69 @@
+-- Axioms, the parts of `method`, statements, notes and obtained names are read as the forms say.
+use Rattle.std.proofs.Common.{◌≡◌, ℕ, suc, ◌≤◌, Bool, true, false, ◌&&◌, ◌||◌, List, [], ◌∷◌, ◌++◌, length, refl, sym, ◌∙◌, arith, append_assoc, append-nil, ap}
+use Rattle.std.specs.Prelude.{Option, Some, None, not}
+use Rattle.iv_lex.specs.declared.cutting.Token.{Token}
+use Rattle.iv_gram.specs.declared.class.Class.TheVariants as class
+use Rattle.iv_gram.specs.declared.class.Sort.TheVariants as sort
+use Rattle.iv_gram.specs.Class.{has}
+use Rattle.iv_forms.specs.declared.fact.Fact.{Fact}
+use Rattle.iv_forms.specs.declared.fact.Att.{Att}
+use Rattle.iv_forms.specs.declared.prop.Group.{Group}
+use Rattle.iv_forms.specs.declared.prop.VarGroup.{VarGroup}
+use Rattle.iv_forms.specs.declared.command.Axiom.{Axiom}
+use Rattle.iv_forms.specs.declared.command.Parts.{Parts}
+use Rattle.iv_forms.specs.declared.command.Statement.{Statement}
+use Rattle.iv_forms.specs.declared.command.Statement.TheVariants as VStatement
+use Rattle.iv_forms.specs.declared.command.NoteGroup.{NoteGroup}
+use Rattle.iv_forms.specs.declared.command.Obtained.{Obtained}
+use Rattle.iv_forms.specs.declared.lexeme.Lexeme.{Lexeme}
+use Rattle.iv_forms.specs.Lexeme.{Is, IsA}
+use Rattle.iv_forms.specs.FactForm.{IsOptAtts}
+use Rattle.iv_forms.specs.PropForm.{IsOptLabel}
+use Rattle.iv_forms.specs.CommandForm as C
+use Rattle.iv_forms.specs.CommandForm.{IsAxiom, IsMoreAxioms, IsAxioms, IsFixes, IsAssumes, IsStatement}
+use Rattle.iv_read.specs.Found.{Found, got, deep, then_, begins, behind, many}
+use Rattle.iv_read.specs.FactLevels.{opt_atts_levels, deep_at, first_of, deep_opt_label}
+use Rattle.iv_read.specs.CommandLevels.{deep_axiom, deep_more_axioms, deep_axioms, deep_assumes, deep_statement}
+use Rattle.iv_read.specs.Props as P
+use Rattle.iv_read.specs.Commands as K
+use Rattle.iv_read.proofs.Steps.{many_stop, went_on}
+use Rattle.iv_read.proofs.Held.{unless, then_unless, then_got, or_so}
+use Rattle.iv_read.proofs.Sorts.{Law, apart, within}
+use Rattle.iv_read.proofs.Lengths.{len_IsAxiom}
+use Rattle.iv_read.proofs.Firsts as First
+use Rattle.iv_read.proofs.PropsRead as R
+
+module _ (law : Law) where
+  an_axiom_read : {x : Axiom} {ts us : List Lexeme} (d : IsAxiom x ts us) → K.an_axiom ts ≡ unless (deep_axiom d) x us
+  unfolding K.an_axiom P.text_of then_
+  an_axiom_read {us = us} (C.axiom_is {n = n} {c = c} {t = t} {xs = xs} {ts = ts} h a k b) =
+      then_got (deep_at (n ∷ ts) (opt_atts_levels a)) (record { name = n.token; atts = xs }) (record { name = n.token; atts = xs; term = t.token }) (c ∷ t ∷ us) us _
+      (R.named_atts_read law n h a (apart law (sort.Only class.Left) (sort.Only class.Colon) refl c.class k)) (rw (k, b) refl)
+
+  more_axioms_read : {xs : List Axiom} {ts us : List Lexeme} (d : IsMoreAxioms xs ts us) → begins (sort.Only class.And) us ≡ false
+    → (found : List Axiom) (steps : List Lexeme) → length ts ≤ length steps → many (begins (sort.Only class.And)) (λ us. K.an_axiom (behind us)) found steps ts ≡ unless (deep_more_axioms d) (found ++ xs) us
+  unfolding many unless
+  more_axioms_read {us = us} C.no_more_axioms e found steps b = many_stop (begins (sort.Only class.And)) (λ us. K.an_axiom (behind us)) found steps us e ∙ ap (λ z. got z us) (sym (append-nil found))
+  more_axioms_read (C.more_axioms a d r) e found [] b = absurd (omega (arith, b))
+  more_axioms_read (C.more_axioms {x = y} {xs = ys} {us = us} {vs = vs} a d r) e found (_ ∷ steps) b =
+      rw a
+      (then_unless (deep_axiom d) (deep_more_axioms r) y _ us vs _ (an_axiom_read d)
+      (more_axioms_read r e (found ++ y ∷ []) steps (omega (arith, b, len_IsAxiom d)) ∙ ap (λ z. unless (deep_more_axioms r) z vs) (append_assoc found (y ∷ []) ys)))
+
+  pub axioms_read : {xs : List Axiom} {ts us : List Lexeme} (d : IsAxioms xs ts us) → begins (sort.Only class.Where) us ≡ false → begins (sort.Only class.And) us ≡ false → K.axioms ts ≡ unless (deep_axioms d) xs us
+  unfolding K.axioms K.more_axioms unless
+  axioms_read C.no_axioms w e = rw w refl
+  axioms_read (C.axioms {x = y} {xs = ys} {us = us} {vs = vs} h d r) w e =
+      rw h (then_unless (deep_axiom d) (deep_more_axioms r) y (y ∷ ys) us vs _ (an_axiom_read d) (more_axioms_read r e (y ∷ []) us (omega (arith))))
+
+  fixes_read : {gs : List VarGroup} {ts us : List Lexeme} → IsFixes gs ts us → begins (sort.Only class.Fixes) us ≡ false → begins (sort.Only class.Colons) us ≡ false → begins sort.Identifier us ≡ false
+    → begins (sort.Only class.And) us ≡ false → K.fixes ts ≡ got gs us
+  unfolding K.fixes
+  fixes_read C.no_fixes w c i a = rw w refl
+  fixes_read (C.fixes h v) w c i a = rw h (R.vars_read law v c i a)
+
+  assumes_read : {gs : List Group} {ts us : List Lexeme} (d : IsAssumes gs ts us) → begins (sort.Only class.Assumes) us ≡ false → begins (sort.Only class.Open) us ≡ false → begins sort.Term us ≡ false
+    → begins (sort.Only class.Colon) us ≡ false → begins (sort.Only class.Left) us ≡ false → begins (sort.Only class.And) us ≡ false → K.assumes ts ≡ unless (deep_assumes d) gs us
+  unfolding K.assumes unless
+  assumes_read C.no_assumes w o t c e a = rw w refl
+  assumes_read (C.assumes h v) w o t c e a = rw h (R.props_read law v o t c e a)
