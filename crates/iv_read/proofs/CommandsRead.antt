@@ -67,3 +67,41 @@ module _ (law : Law) where
   unfolding K.assumes unless
   assumes_read C.no_assumes w o t c e a = rw w refl
   assumes_read (C.assumes h v) w o t c e a = rw h (R.props_read law v o t c e a)
+
+  -- the words of a long statement
+  long_begins : {xs : List VarGroup} {gs : List Group} {us vs ws : List Lexeme} (w : Lexeme) → IsFixes xs us vs → IsAssumes gs vs (w ∷ ws) → IsA class.Shows w → K.begins_long us ≡ true
+  unfolding K.begins_long
+  long_begins w (C.fixes h v) a s = rw h refl
+  long_begins {us = us} w C.no_fixes (C.assumes h v) s = or_so (begins (sort.Only class.Fixes) us) (rw h refl)
+  long_begins {us = us} w C.no_fixes C.no_assumes s = or_so (begins (sort.Only class.Fixes) us) (or_so (begins (sort.Only class.Assumes) us) s)
+
+  -- no label stands in front of them
+  no_label_long : {xs : List VarGroup} {gs : List Group} {us vs ws : List Lexeme} (w : Lexeme) → IsFixes xs us vs → IsAssumes gs vs (w ∷ ws) → IsA class.Shows w → P.begins_label us ≡ false
+  unfolding P.begins_label
+  no_label_long {us = us} w f a s =
+      let left : begins (sort.Only class.Left) us ≡ false =
+          First.free_IsFixes law (sort.Only class.Left) refl f (First.free_IsAssumes law (sort.Only class.Left) refl a (apart law (sort.Only class.Left) (sort.Only class.Shows) refl w.class s)) in
+      let name : begins sort.Name us ≡ false = First.free_IsFixes law sort.Name refl f (First.free_IsAssumes law sort.Name refl a (apart law sort.Name (sort.Only class.Shows) refl w.class s)) in
+      rw (left, name) refl
+
+  pub statement_read : {s : Statement} {ts us : List Lexeme} (d : IsStatement s ts us) → begins (sort.Only class.Open) us ≡ false → begins (sort.Only class.Colon) us ≡ false → begins (sort.Only class.Left) us ≡ false
+    → K.statement ts ≡ unless (deep_statement d) s us
+  unfolding K.statement K.begins_long unless then_
+  statement_read (C.short {l = l} {p = p} {us = us} {vs = vs} d q) o c e =
+      then_got (deep_opt_label d) l (VStatement.Short l p) us vs _ (R.opt_label_read law d (R.no_label_ahead law q c e))
+      (rw (First.free_IsProp law (sort.Only class.Fixes) refl q, First.free_IsProp law (sort.Only class.Assumes) refl q, First.free_IsProp law (sort.Only class.Shows) refl q, R.prop_read law q o) refl)
+  statement_read (C.long {l = l} {xs = xs} {gs = gs} {w = w} {p = p} {us = us} {vs = vs} {ws = ws} {ys = ys} d f a s q) o c e =
+      let not_fixes : has (sort.Only class.Fixes) w.class ≡ false = apart law (sort.Only class.Fixes) (sort.Only class.Shows) refl w.class s in
+      let not_colons : has (sort.Only class.Colons) w.class ≡ false = apart law (sort.Only class.Colons) (sort.Only class.Shows) refl w.class s in
+      let not_name : has sort.Identifier w.class ≡ false = apart law sort.Identifier (sort.Only class.Shows) refl w.class s in
+      let not_and : has (sort.Only class.And) w.class ≡ false = apart law (sort.Only class.And) (sort.Only class.Shows) refl w.class s in
+      let not_assumes : has (sort.Only class.Assumes) w.class ≡ false = apart law (sort.Only class.Assumes) (sort.Only class.Shows) refl w.class s in
+      let not_open : has (sort.Only class.Open) w.class ≡ false = apart law (sort.Only class.Open) (sort.Only class.Shows) refl w.class s in
+      let not_term : has sort.Term w.class ≡ false = apart law sort.Term (sort.Only class.Shows) refl w.class s in
+      let not_colon : has (sort.Only class.Colon) w.class ≡ false = apart law (sort.Only class.Colon) (sort.Only class.Shows) refl w.class s in
+      let not_left : has (sort.Only class.Left) w.class ≡ false = apart law (sort.Only class.Left) (sort.Only class.Shows) refl w.class s in
+      then_unless (deep_opt_label d) (deep_assumes a) l (VStatement.Long l xs gs p) us ys _ (R.opt_label_read law d (no_label_long w f a s))
+      (rw (long_begins w f a s, fixes_read f (First.free_IsAssumes law (sort.Only class.Fixes) refl a not_fixes) (First.free_IsAssumes law (sort.Only class.Colons) refl a not_colons)
+        (First.free_IsAssumes law sort.Identifier refl a not_name) (First.free_IsAssumes law (sort.Only class.And) refl a not_and))
+      (then_got (deep_assumes a) gs (VStatement.Long l xs gs p) (w ∷ ws) ys _ (assumes_read a not_assumes not_open not_term not_colon not_left not_and) (rw (s, R.prop_read law q o) refl)))
+
