@@ -8,3 +8,4 @@ pub mod FactsRead
 pub mod DeclarationsRead
 pub mod PropsRead
 pub mod CommandsRead
+pub mod NotesRead
