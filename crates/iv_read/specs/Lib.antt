@@ -5,3 +5,7 @@ pub mod Props
 pub mod Declarations
 pub mod Commands
 pub mod CommandLevels
+pub mod Methods
+pub mod MethodLevels
+pub mod Forms
+pub mod FormLevels

@@ -7,8 +7,11 @@
 pub mod commands;
 pub mod declarations;
 pub mod facts;
+pub mod forms;
+pub mod methods;
 pub mod props;
 pub mod stop;
 pub mod tokens;
 
+pub use forms::form;
 pub use stop::Stop;
