@@ -6,3 +6,11 @@ pub mod Lengths
 pub mod Firsts
 pub mod FactsRead
 pub mod PropsRead
+pub mod Joins
+pub mod Readings
+pub mod PatternsRead
+pub mod Ends
+pub mod MethodFacts
+pub mod MethodsRead
+pub mod NestedRead
+pub mod WholeRead

@@ -5,6 +5,9 @@
 #![tactic(auto)]
 
 pub mod facts;
+pub mod levelled;
+pub mod methods;
+pub mod patterns;
 pub mod props;
 pub mod stop;
 pub mod tokens;
