@@ -121,7 +121,7 @@ module _ (law : Law) where
   abbrev FindsAtts : (List Lexeme → Found (List Att)) → ℕ → Type 0
   FindsAtts inside left = (xs : List Att) (ts us : List Lexeme) (d : IsAtts xs ts us) → Held left (atts_levels d) xs us (inside (behind ts))
 
-  fact_begins : {f : Fact} {ts us : List Lexeme} → IsFact f ts us → begins sort.Name ts ≡ true
+  pub fact_begins : {f : Fact} {ts us : List Lexeme} → IsFact f ts us → begins sort.Name ts ≡ true
   fact_begins (fact n s a) = n
 
   pub atts_begin : {xs : List Att} {ts us : List Lexeme} → IsAtts xs ts us → begins (sort.Only class.Left) ts ≡ true
@@ -233,7 +233,7 @@ module _ (law : Law) where
   unfolding F.a_fact
   a_fact_read {ts = ts} d o l = limited ts (fact_read limit d o l)
 
-  fact_goes : {f : Fact} {ts us : List Lexeme} → IsFact f ts us → begins (sort.Only class.Colon) us ≡ false → F.goes_fact ts ≡ true
+  pub fact_goes : {f : Fact} {ts us : List Lexeme} → IsFact f ts us → begins (sort.Only class.Colon) us ≡ false → F.goes_fact ts ≡ true
   unfolding F.goes_fact
   fact_goes (fact {n = t} n s a) e =
       let colon = free_IsSels law (sort.Only class.Colon) refl s (free_IsOptAtts law (sort.Only class.Colon) refl a e) in
@@ -243,7 +243,7 @@ module _ (law : Law) where
   unfolding F.goes_fact
   and_goes a ts h = rw h refl
 
-  next_fact_read : {f : Fact} {ts us : List Lexeme} (d : IsFact f ts us) → begins (sort.Only class.Open) us ≡ false → begins (sort.Only class.Left) us ≡ false → F.next_fact ts ≡ unless (deep_fact d) f us
+  pub next_fact_read : {f : Fact} {ts us : List Lexeme} (d : IsFact f ts us) → begins (sort.Only class.Open) us ≡ false → begins (sort.Only class.Left) us ≡ false → F.next_fact ts ≡ unless (deep_fact d) f us
   unfolding F.next_fact
   next_fact_read {ts = ts} d o l =
       let other : begins (sort.Only class.And) ts ≡ false = free_IsFact law (sort.Only class.And) refl d in

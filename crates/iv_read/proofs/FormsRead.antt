@@ -51,6 +51,7 @@ use Rattle.iv_read.proofs.PropsRead as R
 use Rattle.iv_read.proofs.DeclarationsRead as DR
 use Rattle.iv_read.proofs.CommandsRead as KR
 use Rattle.iv_read.proofs.NotesRead as NR
+use Rattle.iv_read.proofs.WholeRead as MR
 
 -- two classes that are the same by their numbers are the same
 abbrev pub ClassLaw : Type 0
@@ -232,3 +233,17 @@ module _ (law : Law) (is : ClassLaw) (method : MethodLaw) where
   form_read (C.dots {w = w} h) = at_class w class.Dots _ h
   form_read (C.done_ {w = w} h) = at_class w class.Done _ h
   form_read (C.oops {w = w} h) = at_class w class.Oops _ h
+
+same : {A : Type 0} (p : Option Pos) (x : A) (us : List Lexeme) → M.unless_deep p x us ≡ unless p x us
+unfolding unless
+same None x us = refl
+same (Some p) x us = refl
+
+method_law : Law → MethodLaw
+method_law law = record {
+  one_read = λ {v} {ts} {us} d q p l. MR.a_method_read law d q p l ∙ same (deep_method d) v us;
+  opt_read = λ {v} {ts} {us} d n m o q p l. MR.opt_method_read law d n m o q p l ∙ same (deep_opt_method d) v us;
+}
+
+pub read_or_deep : Law → ClassLaw → {f : Body} {ts : List Lexeme} (d : IsForm f ts []) → W.form ts ≡ M.unless_deep (deep_form d) f []
+read_or_deep law is {f = f} d = form_read law is (method_law law) d ∙ sym (same (deep_form d) f [])

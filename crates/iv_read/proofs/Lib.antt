@@ -5,7 +5,16 @@ pub mod Sorts
 pub mod Lengths
 pub mod Firsts
 pub mod FactsRead
-pub mod DeclarationsRead
 pub mod PropsRead
+pub mod Joins
+pub mod Readings
+pub mod PatternsRead
+pub mod Ends
+pub mod MethodFacts
+pub mod MethodsRead
+pub mod NestedRead
+pub mod WholeRead
+pub mod DeclarationsRead
 pub mod CommandsRead
 pub mod NotesRead
+pub mod FormsRead

@@ -66,7 +66,7 @@ module _ (law : Law) where
   atts_or_colon no_atts c = rw c refl
   atts_or_colon {ts = ts} (some_atts a) c = or_so (begins (sort.Only class.Colon) ts) (atts_begin law a)
 
-  label_begins : {l : Label} {ts us : List Lexeme} → IsLabel l ts us → P.begins_label ts ≡ true
+  pub label_begins : {l : Label} {ts us : List Lexeme} → IsLabel l ts us → P.begins_label ts ≡ true
   unfolding P.begins_label
   label_begins (named_label {n = t} n a c) = or_so (has (sort.Only class.Left) t.class) (rw (n, atts_or_colon a c) refl)
   label_begins (bare_label a c) = rw (atts_begin law a) refl
@@ -103,7 +103,7 @@ module _ (law : Law) where
   claim_read (claim {l = l} {p = p} {us = us} {vs = vs} d q) o c e =
       then_got (deep_opt_label d) l (record { label = l; prop = p }) us vs _ (opt_label_read d (no_label_ahead q c e)) (went_on _ (prop_read q o))
 
-  prop_begins : {p : Prop} {ts us : List Lexeme} → IsProp p ts us → begins sort.Term ts ≡ true
+  pub prop_begins : {p : Prop} {ts us : List Lexeme} → IsProp p ts us → begins sort.Term ts ≡ true
   prop_begins (prop h r) = h
 
   more_props_read : {ps : List Prop} {ts us : List Lexeme} → IsMoreProps ps ts us → begins (sort.Only class.Open) us ≡ false → begins sort.Term us ≡ false → (found : List Prop) (steps : List Lexeme) → length ts ≤ length steps

@@ -373,7 +373,7 @@ pub(crate) fn a_fact(alloc: Global, tokens: &[Lexeme]) -> Result<(Fact, &[Lexeme
 
 /// Whether a list of facts goes on: by `and`, or by a name that isn't an identifier in front of `:`.
 #[tactic(auto, unfolding(crate::specs::Facts::goes_fact))]
-fn goes_fact(tokens: &[Lexeme]) -> bool
+pub(crate) fn goes_fact(tokens: &[Lexeme]) -> bool
     ensures { result ≡ goes_fact tokens.now }
 {
     begins(tokens, Sort::Only(Class::And))
