@@ -3,3 +3,4 @@ pub mod Classify
 pub mod Piece
 pub mod Opened
 pub mod Unreadable
+pub mod Command
