@@ -1,9 +1,11 @@
 -- The command that a piece is read as. After the outer syntax of Isabelle's Reference Manual.
-use Rattle.std.specs.Prelude.{◌≡◌, ◌⊎◌, ℕ, List, [], ◌∷◌, codes, if◌then◌else◌}
+use Rattle.std.specs.Prelude.{◌≡◌, ◌⊎◌, ℕ, List, [], ◌∷◌, codes, if◌then◌else◌, Option, Some, None}
 use Rattle.iv_lex.specs.declared.cutting.Token.{Token}
 use Rattle.iv_text.specs.declared.Pos.{Pos}
 use Rattle.iv_forms.specs.declared.lexeme.Lexeme.{Lexeme}
+use Rattle.iv_forms.specs.declared.command.Body.{Body}
 use Rattle.iv_forms.specs.CommandForm.{IsForm}
+use Rattle.iv_read.specs.FormLevels.{deep_form}
 use Rattle.iv_outer.specs.declared.reading.Reading.{Reading}
 use Rattle.iv_outer.specs.declared.reading.Reading.TheVariants as reading
 use Rattle.iv_outer.specs.declared.reading.Command.{Command}
@@ -11,10 +13,14 @@ use Rattle.iv_outer.specs.Opened.{lexemes_of}
 use Rattle.iv_outer.specs.Piece.{begins}
 use Rattle.iv_outer.specs.Unreadable.{IsUnreadableAt}
 
--- what the tokens of a piece are read as: a form reads them, or none does, at this place
+-- a form reads all of the tokens, and the first part that has too many levels begins at this place
+abbrev pub IsTooDeepAt : Pos → List Lexeme → Type 0
+IsTooDeepAt p ts = (f : Body) × (d : IsForm f ts []) × (deep_form d ≡ Some p)
+
+-- what the tokens of a piece are read as: a form reads them, and no part has too many levels; or they are refused at this place
 abbrev pub IsReading : Reading → List Lexeme → Type 0
-IsReading (reading.Form f) ts = IsForm f ts []
-IsReading (reading.Unreadable p) ts = IsUnreadableAt p ts
+IsReading (reading.Form f) ts = (d : IsForm f ts []) × (deep_form d ≡ None)
+IsReading (reading.Unreadable p) ts = IsUnreadableAt p ts ⊎ IsTooDeepAt p ts
 
 -- where a piece begins
 abbrev pub at_of : List Token → Pos

@@ -14,7 +14,7 @@ use iv_text::Pos;
 use std::alloc::Global;
 
 /// Where the token at an index begins.
-fn place_at(lexemes: &[Lexeme], index: usize) -> Pos
+pub(crate) fn place_at(lexemes: &[Lexeme], index: usize) -> Pos
     requires { index < length lexemes.now }
     ensures { result ≡ place_at index lexemes.now }
 {
@@ -22,7 +22,7 @@ fn place_at(lexemes: &[Lexeme], index: usize) -> Pos
 }
 
 /// Where the last token ends.
-fn end_of(lexemes: &[Lexeme]) -> Pos
+pub(crate) fn end_of(lexemes: &[Lexeme]) -> Pos
     ensures { result ≡ end_of lexemes.now }
 {
     let count = lexemes.len();

@@ -73,9 +73,9 @@ module _ (law : Law) (is : ClassLaw) (method : MethodLaw) where
   unfolding P.text_of then_
   text_read q b h = rw h refl
 
-  theory_read : {n i m b : Lexeme} {xs : List Token} {ts us : List Lexeme} → Is sort.Name n → IsA class.Imports i → Is sort.Name m → AreAll sort.Name xs ts (b ∷ us) → IsA class.Begin b → W.theory (n ∷ i ∷ m ∷ ts) ≡ got (VBody.Theory n.token (m.token ∷ xs)) us
+  theory_read : (n i m : Lexeme) {b : Lexeme} {xs : List Token} {ts us : List Lexeme} → Is sort.Name n → IsA class.Imports i → Is sort.Name m → AreAll sort.Name xs ts (b ∷ us) → IsA class.Begin b → W.theory (n ∷ i ∷ m ∷ ts) ≡ got (VBody.Theory n.token (m.token ∷ xs)) us
   unfolding W.theory P.text_of then_
-  theory_read {m = m} {b = b} n i a xs e = rw (n, i, R.some_of_read law sort.Name m a xs (apart law sort.Name (sort.Only class.Begin) refl b.class e), e) refl
+  theory_read n i m {b = b} x y a xs e = rw (x, y, R.some_of_read law sort.Name m a xs (apart law sort.Name (sort.Only class.Begin) refl b.class e), e) refl
 
   typedecl_read : {x : Lexeme} {xs : List Token} {ts us : List Lexeme} → C.IsTvars xs ts (x ∷ us) → Is sort.Identifier x → W.typedecl ts ≡ got (VBody.Typedecl xs x.token) us
   unfolding W.typedecl P.text_of then_
@@ -85,9 +85,9 @@ module _ (law : Law) (is : ClassLaw) (method : MethodLaw) where
   unfolding W.consts D.more_consts then_
   consts_read {x = x} {us = us} d r = rw (DR.const_read law d (First.free_IsMoreConsts law (sort.Only class.Open) refl r refl), DR.more_consts_read law r refl refl (x ∷ []) us (omega (arith))) refl
 
-  judgment_read : {x c t : Lexeme} {ts us : List Lexeme} → Is sort.Identifier x → IsA class.Colons c → Is sort.Type t → C.IsJudgmentForm ts us → begins (sort.Only class.Open) us ≡ false → W.judgment (x ∷ c ∷ t ∷ ts) ≡ got (VBody.Judgment x.token t.token) us
+  judgment_read : (x c t : Lexeme) {ts us : List Lexeme} → Is sort.Identifier x → IsA class.Colons c → Is sort.Type t → C.IsJudgmentForm ts us → begins (sort.Only class.Open) us ≡ false → W.judgment (x ∷ c ∷ t ∷ ts) ≡ got (VBody.Judgment x.token t.token) us
   unfolding W.judgment P.text_of then_
-  judgment_read x c t j o = rw (x, c, t, DR.judgment_form_read law j o) refl
+  judgment_read x c t i k y j o = rw (i, k, y, DR.judgment_form_read law j o) refl
 
   axiomatization_read : {cs : List Constant} {xs : List Axiom} {ts us : List Lexeme} → C.IsAxiomConsts cs ts us → (d : C.IsAxioms xs us []) → W.axiomatization ts ≡ unless (deep_axioms d) (VBody.Axiomatization cs xs) []
   unfolding W.axiomatization then_
@@ -95,30 +95,30 @@ module _ (law : Law) (is : ClassLaw) (method : MethodLaw) where
       rw (DR.axiom_consts_read law c (First.free_IsAxioms law sort.Identifier refl d refl) (First.free_IsAxioms law (sort.Only class.Open) refl d refl) (First.free_IsAxioms law (sort.Only class.And) refl d refl))
       (then_got (deep_axioms d) xs (VBody.Axiomatization cs xs) [] [] _ (KR.axioms_read law d refl refl) refl)
 
-  lemmas_read : {n e : Lexeme} {xs : List Att} {fs : List Fact} {ts us : List Lexeme} → Is sort.Name n → (a : IsOptAtts xs ts (e ∷ us)) → IsA class.Equal e → (d : IsFacts fs us []) → W.lemmas (n ∷ ts) ≡ unless (first_of (deep_at (n ∷ ts) (opt_atts_levels a)) (deep_facts d)) (VBody.Lemmas n.token xs fs) []
+  lemmas_read : (n : Lexeme) {e : Lexeme} {xs : List Att} {fs : List Fact} {ts us : List Lexeme} → Is sort.Name n → (a : IsOptAtts xs ts (e ∷ us)) → IsA class.Equal e → (d : IsFacts fs us []) → W.lemmas (n ∷ ts) ≡ unless (first_of (deep_at (n ∷ ts) (opt_atts_levels a)) (deep_facts d)) (VBody.Lemmas n.token xs fs) []
   unfolding W.lemmas K.note_name then_ F.goes_fact
-  lemmas_read {n = n} {e = c} {xs = xs} {fs = fs} {ts = ts} {us = us} h a e d =
+  lemmas_read n {e = c} {xs = xs} {fs = fs} {ts = ts} {us = us} h a e d =
       then_unless (deep_at (n ∷ ts) (opt_atts_levels a)) (deep_facts d) (record { name = n.token; atts = xs }) (VBody.Lemmas n.token xs fs) us [] _
       (then_got (deep_at (n ∷ ts) (opt_atts_levels a)) (record { name = n.token; atts = xs }) (record { name = n.token; atts = xs }) (c ∷ us) us _ (R.named_atts_read law n h a (apart law (sort.Only class.Left) (sort.Only class.Equal) refl c.class e)) (rw e refl))
       (then_got (deep_facts d) fs (VBody.Lemmas n.token xs fs) [] [] _ (FR.facts_read law d refl refl refl refl) refl)
 
-  method_read : {x e : Lexeme} {gs : List VarGroup} {p : Parts} {m : MethodText} {ts us vs : List Lexeme} → Is sort.Identifier x → PF.IsOptFor gs ts us → C.IsParts p us (e ∷ vs) → IsA class.Equal e → (d : IsMethod m vs []) → W.method_definition (x ∷ ts) ≡ unless (deep_method d) (VBody.Method x.token gs p m) []
+  method_read : (x : Lexeme) {e : Lexeme} {gs : List VarGroup} {p : Parts} {m : MethodText} {ts us vs : List Lexeme} → Is sort.Identifier x → PF.IsOptFor gs ts us → C.IsParts p us (e ∷ vs) → IsA class.Equal e → (d : IsMethod m vs []) → W.method_definition (x ∷ ts) ≡ unless (deep_method d) (VBody.Method x.token gs p m) []
   unfolding W.method_definition P.text_of then_ K.begins_part
-  method_read {x = x} {e = c} {gs = gs} {p = p} {m = m} h g q e d =
+  method_read x {e = c} {gs = gs} {p = p} {m = m} {vs = vs} h g q e d =
       let no_for : has (sort.Only class.For) c.class ≡ false = apart law (sort.Only class.For) (sort.Only class.Equal) refl c.class e in
       let no_colons : has (sort.Only class.Colons) c.class ≡ false = apart law (sort.Only class.Colons) (sort.Only class.Equal) refl c.class e in
       let no_name : has sort.Identifier c.class ≡ false = apart law sort.Identifier (sort.Only class.Equal) refl c.class e in
       let no_and_ : has (sort.Only class.And) c.class ≡ false = apart law (sort.Only class.And) (sort.Only class.Equal) refl c.class e in
-      let no_part : K.begins_part (c ∷ _) ≡ false =
+      let no_part : K.begins_part (c ∷ vs) ≡ false =
           rw (apart law (sort.Only class.Methods) (sort.Only class.Equal) refl c.class e, apart law (sort.Only class.Uses) (sort.Only class.Equal) refl c.class e, apart law (sort.Only class.Declares) (sort.Only class.Equal) refl c.class e) refl in
       rw (h, R.opt_for_read law g (First.free_IsParts law (sort.Only class.For) refl refl refl q no_for) (First.free_IsParts law (sort.Only class.Colons) refl refl refl q no_colons)
           (First.free_IsParts law sort.Identifier refl refl refl q no_name) (First.free_IsParts law (sort.Only class.And) refl refl refl q no_and_),
         NR.parts_read law q no_name no_part, e)
       (then_got (deep_method d) m (VBody.Method x.token gs p m) [] [] _ (method.one_read d refl refl refl) refl)
 
-  define_read : {x h b : Lexeme} {t : Option Token} {l : Option Label} {ts us : List Lexeme} → Is sort.Identifier x → PF.IsOfType t ts (h ∷ us) → IsA class.Where h → (d : IsOptLabel l us (b ∷ [])) → Is sort.Term b → W.define (x ∷ ts) ≡ unless (deep_opt_label d) (VBody.Define x.token t l b.token) []
+  define_read : (x : Lexeme) {h b : Lexeme} {t : Option Token} {l : Option Label} {ts us : List Lexeme} → Is sort.Identifier x → PF.IsOfType t ts (h ∷ us) → IsA class.Where h → (d : IsOptLabel l us (b ∷ [])) → Is sort.Term b → W.define (x ∷ ts) ≡ unless (deep_opt_label d) (VBody.Define x.token t l b.token) []
   unfolding W.define P.text_of then_ P.begins_label
-  define_read {x = x} {h = w} {b = b} {t = t} {l = l} i y h d e =
+  define_read x {h = w} {b = b} {t = t} {l = l} i y h d e =
       let no_label : P.begins_label (b ∷ []) ≡ false = rw (apart law (sort.Only class.Left) sort.Term refl b.class e, no_and (has sort.Name b.class) refl) refl in
       rw (i, R.of_type_read law y (apart law (sort.Only class.Colons) (sort.Only class.Where) refl w.class h), h)
       (then_got (deep_opt_label d) l (VBody.Define x.token t l b.token) (b ∷ []) [] _ (R.opt_label_read law d no_label) (rw e refl))
@@ -178,7 +178,7 @@ module _ (law : Law) (is : ClassLaw) (method : MethodLaw) where
 
   pub form_read : {f : Body} {ts : List Lexeme} (d : IsForm f ts []) → W.form ts ≡ unless (deep_form d) f []
   unfolding unless
-  form_read (C.theory {w = w} h n i m xs b) = at_class w class.Theory _ h ∙ theory_read n i m xs b
+  form_read (C.theory {w = w} {n = n} {i = i} {m = m} h a k y xs b) = at_class w class.Theory _ h ∙ theory_read n i m a k y xs b
   form_read (C.end_ {w = w} h) = at_class w class.End _ h
   form_read (C.chapter {w = w} {q = q} h k) = at_class w class.Chapter _ h ∙ text_read q (W.text_body class.Chapter) k
   form_read (C.section_ {w = w} {q = q} h k) = at_class w class.Section _ h ∙ text_read q (W.text_body class.Section) k
@@ -190,12 +190,12 @@ module _ (law : Law) (is : ClassLaw) (method : MethodLaw) where
   form_read (C.txt {w = w} {q = q} h k) = at_class w class.Txt _ h ∙ text_read q (W.text_body class.Txt) k
   form_read (C.typedecl {w = w} h v i) = at_class w class.Typedecl _ h ∙ typedecl_read v i
   form_read (C.consts {w = w} h d r) = at_class w class.Consts _ h ∙ consts_read d r
-  form_read (C.judgment {w = w} h x c t j) = at_class w class.Judgment _ h ∙ judgment_read x c t j refl
+  form_read (C.judgment {w = w} {x = x} {c = c} {t = t} h i k y j) = at_class w class.Judgment _ h ∙ judgment_read x c t i k y j refl
   form_read (C.axiomatization {w = w} h c d) = at_class w class.Axiomatization _ h ∙ axiomatization_read c d
-  form_read (C.lemmas {w = w} h n a e d) = at_class w class.Lemmas _ h ∙ lemmas_read n a e d
+  form_read (C.lemmas {w = w} {n = n} h i a e d) = at_class w class.Lemmas _ h ∙ lemmas_read n i a e d
   form_read (C.declare {w = w} h d) = at_class w class.Declare _ h ∙ facts_form VBody.Declare d
   form_read (C.named_theorems {w = w} {x = x} h i) = at_class w class.NamedTheorems _ h ∙ name_read x i
-  form_read (C.method_ {w = w} h x g p e d) = at_class w class.Method _ h ∙ method_read x g p e d
+  form_read (C.method_ {w = w} {x = x} h i g p e d) = at_class w class.Method _ h ∙ method_read x i g p e d
   form_read (C.lemma_ {w = w} h d) = at_class w class.Lemma _ h ∙ statement_form VBody.Lemma d
   form_read (C.theorem_ {w = w} h d) = at_class w class.Theorem _ h ∙ statement_form VBody.Theorem d
   form_read (C.corollary {w = w} h d) = at_class w class.Corollary _ h ∙ statement_form VBody.Corollary d
@@ -203,7 +203,7 @@ module _ (law : Law) (is : ClassLaw) (method : MethodLaw) where
   form_read (C.fix {w = w} h d) = at_class w class.Fix _ h ∙ vars_form d
   form_read (C.assume {w = w} h d) = at_class w class.Assume _ h ∙ props_form VBody.Assume d
   form_read (C.presume {w = w} h d) = at_class w class.Presume _ h ∙ props_form VBody.Presume d
-  form_read (C.define {w = w} h x t k d b) = at_class w class.Define _ h ∙ define_read x t k d b
+  form_read (C.define {w = w} {x = x} h i t k d b) = at_class w class.Define _ h ∙ define_read x i t k d b
   form_read (C.note {w = w} h d) = at_class w class.Note _ h ∙ notes_form d
   form_read (C.let_ {w = w} h d r) = at_class w class.Let _ h ∙ let_read d r
   form_read (C.left_brace {w = w} h) = at_class w class.LeftBrace _ h
