@@ -4,3 +4,5 @@ pub mod EncodeSteps
 pub mod OpenSteps
 pub mod PlaceSteps
 pub mod JoinSteps
+pub mod ReadingSteps
+pub mod PlacedSteps
