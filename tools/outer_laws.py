@@ -1,6 +1,6 @@
 #!/usr/bin/env python3
-"""Writes two laws of each form of `readings.txt`, for the readers of `iv_read`: how many tokens it takes, and with which it
-begins.
+"""Writes three laws of each form of `readings.txt`, for the readers of `iv_read`: how many tokens it takes, with which it
+begins, and that what it leaves is among what it reads.
 
 Then `rt tidy` in the crate, which drops imports and lays out.
 """
@@ -86,6 +86,21 @@ class Forms:
             text += 'len_%s %s = omega (%s)\n' % (r['name'], '(%s)' % pat if args else pat, ', '.join(['arith'] + facts))
         return text
 
+    def tail(self, r):
+        b, form = self.values(r)
+        n = r['name']
+        text = 'pub tail_%s : (p : Pos) → %s{ts us : List Lexeme} → %s ts us → IsAmong p us → IsAmong p ts\n' % (n, b, form)
+        for c in r['cons']:
+            its = items(c)
+            args = ['abcdefgh'[i] for i in range(len(its))] + (['z'] if c['cond'] else [])
+            pat = ' '.join([c['name']] + args)
+            end = 'q'
+            for (k, x), v in reversed(list(zip(its, args))):
+                call = 'inr' if k == 'token' else 'tail_%s p %s' % ('AreAll' if k == 'all' else x, v)
+                end = '%s %s' % (call, end if end == 'q' else '(%s)' % end)
+            text += 'tail_%s p %s q = %s\n' % (n, '(%s)' % pat if args else pat, end)
+        return text
+
     def begin(self, r):
         n = r['name']
         b, form = self.values(r)
@@ -127,9 +142,9 @@ def uses(f, body):
 
 def write():
     f = Forms()
-    bodies = {'Lengths': '', 'Firsts': ''}
+    bodies = {'Lengths': '', 'Firsts': '', 'Tails': ''}
     for kind, group in f.groups:
-        for file, make in (('Lengths', f.length), ('Firsts', f.begin)):
+        for file, make in (('Lengths', f.length), ('Firsts', f.begin), ('Tails', f.tail)):
             text = '\n'.join(make(r) for r in group)
             if kind == 'mutual':
                 text = 'mutual\n' + ''.join('  %s\n' % l if l else '\n' for l in text.rstrip('\n').split('\n'))
@@ -155,6 +170,16 @@ module _ (law : Law) where
 
 ''' + ''.join('  %s\n' % l if l else '\n' for l in bodies['Firsts'].replace('apart k', 'apart law k').rstrip('\n').split('\n'))
     open(os.path.join(ROOT, 'Firsts.antt'), 'w').write(text)
+    text = HEAD + '-- Where a place among the tokens that a form leaves is: among those that it reads.\nuse Rattle.std.proofs.Common.{ℕ, List, inr}\nuse Rattle.std.specs.Prelude.{Option}\n'
+    text += 'use Rattle.iv_text.specs.declared.Pos.{Pos}\n' + common + 'use Rattle.iv_gram.specs.declared.class.Sort.{Sort}\n' + uses(f, bodies['Tails'])
+    text += '''use Rattle.iv_read.specs.Found.{IsAmong}
+
+pub tail_AreAll : (p : Pos) → {k : Sort} {v : List Token} {ts us : List Lexeme} → AreAll k v ts us → IsAmong p us → IsAmong p ts
+tail_AreAll p no_more q = q
+tail_AreAll p (one_more a b) q = inr (tail_AreAll p b q)
+
+''' + bodies['Tails']
+    open(os.path.join(ROOT, 'Tails.antt'), 'w').write(text)
 
 
 if __name__ == '__main__':

@@ -4,6 +4,7 @@ pub mod Held
 pub mod Sorts
 pub mod Lengths
 pub mod Firsts
+pub mod Tails
 pub mod FactsRead
 pub mod PropsRead
 pub mod Joins
@@ -18,3 +19,4 @@ pub mod DeclarationsRead
 pub mod CommandsRead
 pub mod NotesRead
 pub mod FormsRead
+pub mod DeepPlaces

@@ -1,5 +1,5 @@
 -- What a reader of tokens finds, by the next tokens. Of this project.
-use Rattle.std.specs.Prelude.{◌≡◌, ℕ, nat_lt, List, [], ◌∷◌, ◌++◌, Bool, false, if◌then◌else◌}
+use Rattle.std.specs.Prelude.{◌≡◌, ◌⊎◌, ℕ, nat_lt, List, [], ◌∷◌, ◌++◌, Bool, false, if◌then◌else◌}
 use Rattle.iv_text.specs.declared.Pos.{Pos}
 use Rattle.iv_gram.specs.declared.class.Sort.{Sort}
 use Rattle.iv_gram.specs.Class.{has}
@@ -11,6 +11,11 @@ use Rattle.iv_read.specs.declared.stop.Stop.TheVariants as stop
 abbrev pub place_of : List Lexeme → Pos
 place_of [] = record { 0 = 0 }
 place_of (t ∷ ts) = t.token.at
+
+-- whether a token begins at that place
+abbrev pub IsAmong : Pos → List Lexeme → Type 0
+IsAmong p [] = ⊥
+IsAmong p (t ∷ ts) = (p ≡ t.token.at) ⊎ IsAmong p ts
 
 -- a value and the tokens behind what it was read from, no form, or a part with too many levels and where that begins
 pub data Found (A : Type 0) : Type 0 where
