@@ -1,6 +1,6 @@
 -- The place of a refusal is one of the piece's tokens.
 use Rattle.std.proofs.Common.{◌≡◌, ℕ, zero, suc, ◌<◌, List, [], ◌∷◌, ◌++◌, length, map, Bool, true, false, refl, sym, ◌∙◌, arith, inl, inr, length-append}
-use Rattle.std.specs.Prelude.{◌⊎◌, ◌&&◌, if◌then◌else◌, nat_lt, encode_utf8_all}
+use Rattle.std.specs.Prelude.{Some, ◌⊎◌, ◌&&◌, if◌then◌else◌, nat_lt, encode_utf8_all}
 use Rattle.iv_text.specs.declared.Pos.{Pos}
 use Rattle.iv_lex.specs.declared.cutting.Token.{Token}
 use Rattle.iv_lex.specs.Token.{tokens_of}
@@ -9,6 +9,8 @@ use Rattle.iv_gram.specs.declared.class.Class.TheVariants as class
 use Rattle.iv_forms.specs.declared.command.Body.{Body}
 use Rattle.iv_forms.specs.declared.lexeme.Lexeme.{Lexeme}
 use Rattle.iv_forms.specs.CommandForm.{IsForm}
+use Rattle.iv_read.specs.FormLevels.{deep_form}
+use Rattle.iv_read.specs.Found.{IsAmong}
 use Rattle.iv_outer.specs.declared.reading.Reading.{Reading}
 use Rattle.iv_outer.specs.declared.reading.Reading.TheVariants as reading
 use Rattle.iv_outer.specs.Classify.{lexeme_of}
@@ -108,3 +110,17 @@ some_lexemes : (ts : List Token) → 0 < length ts → 0 < length (lexemes_of ts
 unfolding lexemes_of
 some_lexemes [] b = absurd (omega (arith, b))
 some_lexemes (t ∷ ts) b = some_often (longest 0 (t ∷ ts)) (lexeme_of t ∷ map lexeme_of ts) (omega (arith))
+
+abbrev pub DeepLaw : Type 0
+DeepLaw = (f : Body) (ts us : List Lexeme) (d : IsForm f ts us) (p : Pos) → deep_form d ≡ Some p → IsAmong p ts
+
+among : (p : Pos) {ts : List Token} (ls : List Lexeme) → Placed ts ls → IsAmong p ls → HasPlace p ts
+among p [] q a = absurd a
+among p {ts = ts} (l ∷ ls) (more s q) (inl e) = rw e (begun l.token.at l.token.end ts s)
+among p (l ∷ ls) (more s q) (inr a) = among p ls q a
+
+pub placed_reading : DeepLaw → (ts : List Token) (r : Reading) → 0 < length ts → IsReading r (lexemes_of ts) → IsPlaced r ts
+placed_reading law ts (reading.Form f) b r = tt
+placed_reading law ts (reading.Unreadable p) b (inl (inl r)) = rw r.2 (at_place r.0 (all_placed ts) r.1.0)
+placed_reading law ts (reading.Unreadable p) b (inl (inr r)) = rw r.2 (at_end (all_placed ts) (some_lexemes ts b))
+placed_reading law ts (reading.Unreadable p) b (inr r) = among p (lexemes_of ts) (all_placed ts) (law r.0 (lexemes_of ts) [] r.1 p r.2)

@@ -14,7 +14,7 @@ use iv_forms::Lexeme;
 use iv_forms::judge::judge;
 use iv_gram::Verdict;
 use iv_lex::Token;
-use iv_read::laws::forms_are_read;
+use iv_read::laws::{deep_parts_are_placed, forms_are_read};
 use iv_read::{Stop, form};
 use iv_term::{Mem, Text, Want};
 use std::alloc::Global;
@@ -66,6 +66,7 @@ pub fn command(alloc: Global, tokens: &[Token]) -> Mem<Command>
     ensures memory { IfErr result (λ w. w ≡ Memory) }
 {
     there_is_one_reading();
+    deep_parts_are_placed();
     let word = word_of(alloc, tokens)?;
     let lexemes = lexemes_of(alloc, tokens)?;
     let reading = reading(alloc, &lexemes)?;
