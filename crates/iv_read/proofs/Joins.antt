@@ -1,7 +1,7 @@
 -- Parts joined in a loop.
 use Rattle.std.proofs.Common.{◌≡◌, ℕ, zero, suc, ◌+◌, ◌-◌, ◌<◌, ◌≤◌, Bool, true, false, List, [], ◌∷◌, length, drop, refl, arith, add-one}
 use Rattle.std.proofs.Math.ListN.{drop_of_length-le}
-use Rattle.std.specs.Prelude.{Option, Some, None, Result, Ok, Err, IsErrAnd, IfErr}
+use Rattle.std.specs.Prelude.{Some, None, Result, Ok, Err, IsErrAnd, IfErr}
 use Rattle.iv_text.specs.declared.Pos.{Pos}
 use Rattle.iv_forms.specs.declared.fact.Fact.{Fact}
 use Rattle.iv_forms.specs.declared.method.MethodText.{MethodText}

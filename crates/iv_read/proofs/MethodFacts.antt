@@ -1,9 +1,7 @@
 -- Facts in methods are read as the forms say, or passed over.
-use Rattle.std.proofs.Common.{◌≡◌, ◌≤◌, ℕ, ◌<◌, ◌+◌, ◌-◌, Bool, true, false, List, [], ◌∷◌, ◌++◌, length, refl, sym, ◌∙◌, arith, append_assoc, append-nil, ap, add-one}
+use Rattle.std.proofs.Common.{◌≡◌, ℕ, ◌<◌, ◌+◌, ◌-◌, Bool, true, false, List, [], ◌∷◌, refl, ◌∙◌, arith}
 use Rattle.std.proofs.lemmas.Bool.Decides.{nat_tests}
-use Rattle.std.specs.Prelude.{Option, Some, None, ◌||◌, ◌&&◌, not, nat_lt}
-use Rattle.iv_text.specs.declared.Pos.{Pos}
-use Rattle.iv_gram.specs.declared.class.Class.{Class}
+use Rattle.std.specs.Prelude.{◌||◌, nat_lt}
 use Rattle.iv_gram.specs.declared.class.Class.TheVariants as class
 use Rattle.iv_gram.specs.declared.class.Sort.{Sort}
 use Rattle.iv_gram.specs.declared.class.Sort.TheVariants as sort
@@ -18,8 +16,8 @@ use Rattle.iv_forms.specs.declared.fact.Place.{Place}
 use Rattle.iv_forms.specs.declared.lexeme.Lexeme.{Lexeme}
 use Rattle.iv_forms.specs.Lexeme.{Is}
 use Rattle.iv_forms.specs.FactForm.{IsSel, one, range, IsMoreSels, no_more_sels, more_sels, IsSels, no_sels, sels, IsMark, no_mark, strong, weak, IsTermPlace, term_hole, term_given, IsTermPlaces, no_term_places, term_places, IsWhere, where_is, IsMoreWheres, no_more_wheres, more_wheres, IsFact, fact, IsOptAtts, no_atts, some_atts, IsAtts, atts, IsMoreAtts, no_more_atts, more_atts, IsAtt, of_facts, then_fact, of_terms, where_are, att_name, IsPlace, fact_hole, fact_given, IsPlaces, no_places, places, IsMoreFacts, no_more_facts, more_facts, and_facts, IsFacts, facts}
-use Rattle.iv_read.specs.Found.{begins, behind}
-use Rattle.iv_read.specs.Methods.{past, brackets, stays, opens, closes}
+use Rattle.iv_read.specs.Found.{begins}
+use Rattle.iv_read.specs.Methods.{past, brackets, stays}
 use Rattle.iv_read.specs.Facts.{goes_fact}
 use Rattle.iv_read.proofs.Sorts.{Law, clear, apart}
 use Rattle.iv_read.proofs.Firsts.{free_IsSels, free_IsOptAtts, free_IsMoreFacts}

@@ -1,32 +1,23 @@
 -- Methods are read as the forms say, where their levels fit; else they are too deep.
-use Rattle.std.proofs.Common.{◌≡◌, ◌≤◌, ◌<◌, ℕ, zero, suc, ◌+◌, max, Bool, true, false, List, [], ◌∷◌, ◌++◌, length, refl, sym, ◌∙◌, arith, append_assoc, append-nil, ap, inl, inr, ◌⊎◌}
-use Rattle.std.specs.Prelude.{Option, Some, None, ◌||◌, ◌&&◌, not, nat_lt}
-use Rattle.std.proofs.Math.Nat.{le-max_left, le-max_right, max-zero}
-use Rattle.std.proofs.lemmas.Bool.Decides.{nat_tests}
+use Rattle.std.proofs.Common.{◌≡◌, ◌≤◌, Bool, true, false, List, [], ◌∷◌, ◌++◌, length, refl, arith, append_assoc, append-nil, inl, inr, ◌⊎◌}
+use Rattle.std.specs.Prelude.{Option, Some, None, ◌||◌}
 use Rattle.iv_text.specs.declared.Pos.{Pos}
 use Rattle.iv_gram.specs.declared.class.Class.{Class}
 use Rattle.iv_gram.specs.declared.class.Class.TheVariants as class
-use Rattle.iv_gram.specs.declared.class.Sort.{Sort}
 use Rattle.iv_gram.specs.declared.class.Sort.TheVariants as sort
-use Rattle.iv_gram.specs.Class.{has}
 use Rattle.iv_forms.specs.declared.fact.Sel.{Sel}
 use Rattle.iv_forms.specs.declared.fact.Fact.{Fact}
 use Rattle.iv_forms.specs.declared.fact.Att.{Att}
 use Rattle.iv_forms.specs.declared.method.Section.{Section}
 use Rattle.iv_forms.specs.declared.method.Subject.{Subject}
 use Rattle.iv_forms.specs.declared.method.Subject.TheVariants as VSubject
-use Rattle.iv_forms.specs.declared.method.MethodText.{MethodText}
 use Rattle.iv_forms.specs.declared.method.MethodText.TheVariants as VMethod
-use Rattle.iv_forms.specs.declared.method.Arg.{Arg}
-use Rattle.iv_forms.specs.declared.method.Arg.TheVariants as VArg
-use Rattle.iv_forms.specs.declared.method.Case.{Case}
-use Rattle.iv_forms.specs.declared.method.Case.TheVariants as VCase
 use Rattle.iv_forms.specs.declared.lexeme.Lexeme.{Lexeme}
 use Rattle.iv_forms.specs.Lexeme.{Is, IsA}
-use Rattle.iv_forms.specs.FactForm.{IsSels, no_sels, sels, IsOptAtts, no_atts, some_atts, IsFact, fact, IsMoreFacts, no_more_facts, more_facts, and_facts, IsFacts, facts}
+use Rattle.iv_forms.specs.FactForm.{IsSels, sels, IsOptAtts, some_atts, fact, IsMoreFacts, more_facts, and_facts, IsFacts, facts}
 use Rattle.iv_forms.specs.MethodForm.{IsSection, section, IsSections, no_sections, sections, IsBeyond, other_name, with_sels, with_atts, with_facts, IsSubject, premises, conclusion, subject_term, subject_facts}
 use Rattle.iv_read.specs.declared.levelled.Levelled.{Levelled}
-use Rattle.iv_read.specs.Found.{Found, got, wrong, deep, then_, begins, behind}
+use Rattle.iv_read.specs.Found.{Found, got, then_, begins}
 use Rattle.iv_read.specs.FactLevels.{first_of, deep_facts}
 use Rattle.iv_read.specs.Facts.{goes_fact}
 use Rattle.iv_read.specs.Facts as F
@@ -37,7 +28,7 @@ use Rattle.iv_read.proofs.Sorts.{Law, clear, apart, within}
 use Rattle.iv_read.proofs.Held.{unless}
 use Rattle.iv_read.proofs.Joins.{joins_stop}
 use Rattle.iv_read.proofs.Lengths.{len_IsSection}
-use Rattle.iv_read.proofs.Firsts.{free_IsSels, free_IsOptAtts, free_IsAtts, free_IsMoreFacts, free_IsFact, free_IsSections}
+use Rattle.iv_read.proofs.Firsts.{free_IsSels, free_IsOptAtts, free_IsAtts, free_IsFact}
 use Rattle.iv_read.proofs.FactsRead.{facts_read}
 use Rattle.iv_read.proofs.PatternsRead.{and_false}
 use Rattle.iv_read.proofs.Ends.{ends, ends_item, free_ends}

@@ -1,11 +1,9 @@
 -- Methods within methods are read as the forms say, where their levels fit; else they are too deep.
-use Rattle.std.proofs.Common.{◌≡◌, ◌≤◌, ◌<◌, ℕ, zero, suc, ◌+◌, max, Bool, true, false, List, [], ◌∷◌, ◌++◌, length, refl, sym, ◌∙◌, arith, append_assoc, append-nil, ap}
-use Rattle.std.specs.Prelude.{Option, Some, None, ◌||◌, ◌&&◌, not, nat_lt}
+use Rattle.std.proofs.Common.{◌≡◌, ◌≤◌, ◌<◌, ℕ, suc, max, Bool, true, false, List, [], ◌∷◌, ◌++◌, length, refl, arith, append_assoc, append-nil}
+use Rattle.std.specs.Prelude.{Option, None, ◌||◌}
 use Rattle.std.proofs.Math.Nat.{max-le, le-max_left, le-max_right, max-zero, zero-max}
 use Rattle.iv_text.specs.declared.Pos.{Pos}
-use Rattle.iv_gram.specs.declared.class.Class.{Class}
 use Rattle.iv_gram.specs.declared.class.Class.TheVariants as class
-use Rattle.iv_gram.specs.declared.class.Sort.{Sort}
 use Rattle.iv_gram.specs.declared.class.Sort.TheVariants as sort
 use Rattle.iv_gram.specs.Class.{has}
 use Rattle.iv_forms.specs.declared.fact.Fact.{Fact}
@@ -21,29 +19,25 @@ use Rattle.iv_forms.specs.declared.method.Case.{Case}
 use Rattle.iv_forms.specs.declared.method.Case.TheVariants as VCase
 use Rattle.iv_forms.specs.declared.lexeme.Lexeme.{Lexeme}
 use Rattle.iv_forms.specs.Lexeme.{Is, IsA}
-use Rattle.iv_forms.specs.FactForm.{IsFact, fact, IsFacts, facts}
+use Rattle.iv_forms.specs.FactForm.{fact, IsFacts, facts}
 use Rattle.iv_forms.specs.PropForm.{IsOptFor}
-use Rattle.iv_forms.specs.MethodForm.{IsPattern, IsMorePatterns, IsSection, section, IsSections, no_sections, sections, IsSubject, premises, conclusion, subject_term, subject_facts, IsMethod, method, IsCore, core_name, core_dash, core_paren, IsSuffix, no_suffix, try, repeat, first, IsAlt, alt, IsMoreAlt, no_bar, bar, IsSemi, semi, IsMoreSemi, no_semicolon, semicolon, IsSeq, seq, IsMoreSeq, no_comma, comma, IsItem, item_method, item_rule, item_call, item_sections, item_match, IsArg, arg_term, arg_method, IsArgs, no_args, args, IsCases, cases, IsMoreCases, no_more_cases, more_cases, IsCase, case_is, IsOptMethod, no_method, a_method}
+use Rattle.iv_forms.specs.MethodForm.{IsPattern, IsMorePatterns, IsSection, section, IsSections, no_sections, sections, IsSubject, premises, conclusion, subject_term, subject_facts, IsMethod, method, IsCore, core_name, core_dash, core_paren, IsSuffix, no_suffix, try, repeat, first, IsAlt, alt, IsMoreAlt, no_bar, bar, IsSemi, semi, IsMoreSemi, no_semicolon, semicolon, IsSeq, seq, IsMoreSeq, no_comma, comma, IsItem, item_method, item_rule, item_call, item_sections, item_match, IsArg, arg_term, arg_method, IsArgs, no_args, args, IsCases, cases, IsMoreCases, no_more_cases, more_cases, IsCase, case_is}
 use Rattle.iv_read.specs.declared.levelled.Levelled.{Levelled}
 use Rattle.iv_read.specs.declared.levelled.Join.{Join}
 use Rattle.iv_read.specs.declared.levelled.Join.TheVariants as VJoin
-use Rattle.iv_read.specs.Found.{Found, got, wrong, deep, then_, begins, behind}
-use Rattle.iv_read.specs.FactLevels.{first_of, deep_facts}
-use Rattle.iv_read.specs.Facts.{goes_fact}
-use Rattle.iv_read.specs.Facts as F
-use Rattle.iv_read.specs.Props as Q
+use Rattle.iv_read.specs.Found.{Found, got, then_, begins, behind}
+use Rattle.iv_read.specs.FactLevels.{first_of}
 use Rattle.iv_read.specs.Patterns as P
 use Rattle.iv_read.specs.Methods as M
-use Rattle.iv_read.specs.MethodLevels.{suffix_levels, method_levels, core_levels, alt_levels, more_alt_levels, semi_levels, more_semi_levels, seq_levels, more_seq_levels, item_levels, arg_levels, args_levels, cases_levels, more_cases_levels, case_levels, deep_section, deep_sections, deep_subject, fact_in_method, fact_in_core, fact_in_alt, fact_in_more_alt, fact_in_semi, fact_in_more_semi, fact_in_seq, fact_in_more_seq, fact_in_item, fact_in_arg, fact_in_args, fact_in_cases, fact_in_more_cases, fact_in_case}
+use Rattle.iv_read.specs.MethodLevels.{suffix_levels, method_levels, core_levels, alt_levels, more_alt_levels, semi_levels, more_semi_levels, seq_levels, more_seq_levels, item_levels, arg_levels, args_levels, cases_levels, more_cases_levels, case_levels, deep_sections, deep_subject, fact_in_method, fact_in_core, fact_in_alt, fact_in_more_alt, fact_in_semi, fact_in_more_semi, fact_in_seq, fact_in_more_seq, fact_in_item, fact_in_arg, fact_in_args, fact_in_cases, fact_in_more_cases, fact_in_case}
 use Rattle.iv_read.proofs.Sorts.{Law, apart, within}
-use Rattle.iv_read.proofs.Held.{unless}
 use Rattle.iv_read.proofs.Joins.{joins_stop}
 use Rattle.iv_read.proofs.Lengths.{len_IsItem, len_IsSeq, len_IsSemi, len_IsArg, len_IsCase}
 use Rattle.iv_read.proofs.Firsts.{free_IsSuffix, free_IsArgs, free_IsSections, free_IsMorePatterns, free_IsOptFor}
 use Rattle.iv_read.proofs.PropsRead.{opt_for_read}
 use Rattle.iv_read.proofs.PatternsRead.{and_false, opt_nat_read, pattern_read, more_patterns_read}
 use Rattle.iv_read.proofs.Ends.{ends, ends_alt, ends_semi, ends_seq, ends_item, ends_more, ends_here, free_ends}
-use Rattle.iv_read.proofs.Readings.{Holds, holds_flat, holds_mapped, holds_both, first_with, first_assoc, Reads, fits, exceeds, next_reads, raised_reads, inside_reads, link, listed}
+use Rattle.iv_read.proofs.Readings.{Holds, holds_flat, holds_mapped, holds_both, first_with, first_assoc, Reads, fits, next_reads, raised_reads, inside_reads, link, listed}
 use Rattle.iv_read.proofs.MethodsRead.{Noted, noted, sections_read, rule_read, subject_read, closed_ends}
 
 max_assoc : (a b c : ℕ) → max (max a b) c ≡ max a (max b c)

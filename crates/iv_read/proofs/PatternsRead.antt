@@ -1,6 +1,6 @@
 -- Numbers and the patterns of a case are read as the forms say.
 use Rattle.std.proofs.Common.{◌≡◌, ◌≤◌, ℕ, Bool, true, false, List, [], ◌∷◌, ◌++◌, length, refl, sym, ◌∙◌, arith, append_assoc, append-nil, ap}
-use Rattle.std.specs.Prelude.{Some, None, ◌&&◌}
+use Rattle.std.specs.Prelude.{◌&&◌}
 use Rattle.iv_gram.specs.declared.class.Class.TheVariants as class
 use Rattle.iv_gram.specs.declared.class.Sort.TheVariants as sort
 use Rattle.iv_gram.specs.Class.{has}

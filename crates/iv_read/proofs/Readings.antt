@@ -1,7 +1,7 @@
 -- Parts of methods as they are read, with their levels and the places of facts that are too deep.
-use Rattle.std.proofs.Common.{◌≡◌, ℕ, zero, suc, ◌+◌, ◌<◌, ◌≤◌, max, Bool, true, false, List, [], ◌∷◌, ◌++◌, length, refl, sym, ◌∙◌, ap, ap₂, arith, add-one, append_assoc}
+use Rattle.std.proofs.Common.{◌≡◌, ℕ, zero, suc, ◌+◌, ◌<◌, ◌≤◌, max, Bool, true, false, List, [], ◌∷◌, ◌++◌, refl, ◌∙◌, ap, ap₂, arith, add-one}
 use Rattle.std.specs.Prelude.{Option, Some, None, nat_lt}
-use Rattle.std.proofs.Math.Nat.{le-max_left, le-max_right}
+use Rattle.std.proofs.Math.Nat.{le-max_right}
 use Rattle.std.proofs.lemmas.Bool.Decides.{nat_tests}
 use Rattle.iv_text.specs.declared.Pos.{Pos}
 use Rattle.iv_gram.specs.declared.class.Sort.TheVariants as sort
@@ -9,7 +9,7 @@ use Rattle.iv_forms.specs.declared.method.MethodText.{MethodText}
 use Rattle.iv_forms.specs.declared.lexeme.Lexeme.{Lexeme}
 use Rattle.iv_read.specs.declared.levelled.Levelled.{Levelled}
 use Rattle.iv_read.specs.declared.levelled.Join.{Join}
-use Rattle.iv_read.specs.Found.{Found, got, wrong, deep, then_, place_of, begins, behind}
+use Rattle.iv_read.specs.Found.{Found, got, deep, then_, place_of, begins, behind}
 use Rattle.iv_read.specs.FactLevels.{first_of}
 use Rattle.iv_read.specs.Methods.{flat, mapped, both, more, raised, joins, between, joined, alt, inside}
 

@@ -1,29 +1,21 @@
 -- A whole method is read, or the first part in it that is too deep is refused.
-use Rattle.std.proofs.Common.{◌≡◌, ℕ, Bool, true, false, List, [], ◌∷◌, refl, arith, ap}
+use Rattle.std.proofs.Common.{◌≡◌, ℕ, Bool, true, false, List, refl, arith}
 use Rattle.std.specs.Prelude.{Option, Some, None, ◌||◌, nat_lt}
 use Rattle.std.proofs.lemmas.Bool.Decides.{nat_tests}
 use Rattle.iv_text.specs.declared.Pos.{Pos}
 use Rattle.iv_gram.specs.declared.class.Class.TheVariants as class
 use Rattle.iv_gram.specs.declared.class.Sort.TheVariants as sort
 use Rattle.iv_gram.specs.Class.{has}
-use Rattle.iv_forms.specs.declared.fact.Fact.{Fact}
-use Rattle.iv_forms.specs.declared.prop.VarGroup.{VarGroup}
 use Rattle.iv_forms.specs.declared.method.MethodText.{MethodText}
 use Rattle.iv_forms.specs.declared.lexeme.Lexeme.{Lexeme}
-use Rattle.iv_forms.specs.FactForm.{IsFacts}
-use Rattle.iv_forms.specs.PropForm.{IsOptFor}
 use Rattle.iv_forms.specs.MethodForm.{IsMethod, method, core_name, core_dash, core_paren, IsOptMethod, no_method, a_method}
 use Rattle.iv_read.specs.declared.levelled.Levelled.{Levelled}
-use Rattle.iv_read.specs.Found.{Found, got, deep, then_, begins}
-use Rattle.iv_read.specs.FactLevels.{limit, first_of, deep_at, deep_facts}
-use Rattle.iv_read.specs.Facts.{goes_fact}
-use Rattle.iv_read.specs.Facts as F
-use Rattle.iv_read.specs.Props as Q
+use Rattle.iv_read.specs.Found.{Found, got, then_, begins}
+use Rattle.iv_read.specs.FactLevels.{limit, first_of, deep_at}
 use Rattle.iv_read.specs.Methods as M
-use Rattle.iv_read.specs.MethodLevels.{deep_method, deep_opt_method, found_method, found_opt_method, method_levels, fact_in_method}
+use Rattle.iv_read.specs.MethodLevels.{deep_method, found_method, found_opt_method}
 use Rattle.iv_read.proofs.Sorts.{Law}
-use Rattle.iv_read.proofs.Held.{unless}
-use Rattle.iv_read.proofs.Readings.{Holds, Reads, fits, exceeds}
+use Rattle.iv_read.proofs.Readings.{Reads, fits, exceeds}
 use Rattle.iv_read.proofs.NestedRead.{method_read}
 
 settled_by : {v : MethodText} (us : List Lexeme) (o : Option Pos) (y : Levelled MethodText) → y.deep ≡ o → (o ≡ None → y.value ≡ v) → M.unless_deep y.deep y.value us ≡ M.unless_deep o v us

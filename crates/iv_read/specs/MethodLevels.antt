@@ -1,5 +1,5 @@
 -- How many levels methods have, and what they are read as: the first part that has too many is refused. Of this project.
-use Rattle.std.specs.Prelude.{ℕ, suc, max, List, Option, Some, None}
+use Rattle.std.specs.Prelude.{ℕ, suc, max, List, Option, None}
 use Rattle.iv_text.specs.declared.Pos.{Pos}
 use Rattle.iv_forms.specs.declared.method.Section.{Section}
 use Rattle.iv_forms.specs.declared.method.Subject.{Subject}
