@@ -1,10 +1,9 @@
 -- The theorems of a document: they only grow in number, and each is derivable.
 use Rattle.std.proofs.Common.{◌≡◌, ℕ, Bool, true, false, List, [], ◌∷◌, ◌++◌, refl, sym, ap, ◌∙◌, subst, inl, inr, ◌⊎◌, if◌then◌else◌, append_assoc}
-use Rattle.std.specs.Prelude.{Contains}
+use Rattle.std.specs.Prelude.{Contains, Option, Some, None}
 use Rattle.std.specs.List.{list_any}
 use Rattle.std.specs.Str.{bytes_eq}
 use Rattle.std.proofs.lemmas.List.{append-nil}
-use Rattle.iv_text.specs.declared.Pos.{Pos}
 use Rattle.iv_term.specs.declared.term.Term.{Term}
 use Rattle.iv_term.specs.declared.term.Terms.{Terms}
 use Rattle.iv_term.specs.declared.term.Term.TheBlock.{Nil}
@@ -16,11 +15,10 @@ use Rattle.iv_term.specs.Derivation.{Concludes, Derivable, imp_intr, inst, axiom
 use Rattle.iv_kernel.proofs.Laws.Follows.{seq, assume-concludes, imp_intr-concludes, inst-concludes}
 use Rattle.isarvm.specs.declared.commands.Command.{Command}
 use Rattle.isarvm.specs.declared.commands.Form.{Form}
-use Rattle.isarvm.specs.declared.commands.Form.TheVariants.{Lemma, ByAssumption, Oops, End, Unreadable}
+use Rattle.isarvm.specs.declared.commands.Form.TheVariants.{Header, Prose, Lemma, ByAssumption, Oops, End, Unreadable}
 use Rattle.isarvm.specs.declared.refusal.Refusal.{Refusal}
-use Rattle.isarvm.specs.Command.{commands_of}
 use Rattle.isarvm.specs.Statement.{statement_of, free_var, schematic_var, last_of, is_solved, with_entry, with_entries, open_hyps}
-use Rattle.isarvm.specs.Machine.{Finished, Stage, Start, Theory, Prove, Ended, Machine, Refused, Accepted, is_taken, theorem_of, row, state_after, start, next}
+use Rattle.isarvm.specs.Machine.{Finished, Stage, Start, Theory, Prove, Ended, Machine, Refused, Accepted, is_taken, other_import, header_row, theorem_of, row, state_after, start, next}
 use Rattle.isarvm.specs.Run.{state_behind, theorems_of, AllDerivable, IsFrontOf}
 use Rattle.isarvm.proofs.StatementSteps.{statement-cons, solved-any}
 use Rattle.isarvm.proofs.Generalising.{free_var-proposition, open_hyps-cons, open_hyps-none, open_hyps-solved, statement-entries, no_entries-fit, absent-nowhere, put-statement, put-no_hyps}
@@ -32,8 +30,8 @@ pub front-of-front : {X : Type 0} (a b c : List X) → IsFrontOf a b → IsFront
 front-of-front a b c h k = (h.0 ++ k.0, k.1 ∙ ap (λ l. l ++ k.0) h.1 ∙ append_assoc a h.0 k.0)
 
 -- the theorems behind a command in this state
-abbrev behind : Pos → Form → Stage → List Finished → List Finished
-behind at f s finished = (state_after (record { stage = s; finished = finished }) (row at f (record { stage = s; finished = finished }))).finished
+abbrev behind : Form → Stage → List Finished → List Finished
+behind f s finished = (state_after (record { stage = s; finished = finished }) (row f (record { stage = s; finished = finished }))).finished
 
 -- some theorems are these, or these and that of a solved statement behind them
 abbrev AddsSolved : List Finished → List Finished → Type 0
@@ -50,27 +48,40 @@ by-adds : (b : Bool) (s : Stage) (r : Refusal) (fs : List Finished) (label : Lis
 by-adds true s r fs label parts e = inr (label, (parts, (e, refl)))
 by-adds false s r fs label parts e = inl refl
 
-row-adds : (at : Pos) (f : Form) (s : Stage) (fs : List Finished) → AddsSolved fs (behind at f s fs)
-row-adds at (Lemma name parts) Start fs = lemma-keeps (is_taken fs name) _ _ _ fs
-row-adds at (Lemma name parts) Theory fs = lemma-keeps (is_taken fs name) _ _ _ fs
-row-adds at (Lemma name parts) (Prove label claim) fs = inl refl
-row-adds at (Lemma name parts) Ended fs = inl refl
-row-adds at ByAssumption Start fs = inl refl
-row-adds at ByAssumption Theory fs = inl refl
-row-adds at ByAssumption (Prove label claim) fs = by-adds (is_solved claim) _ _ fs label claim refl
-row-adds at ByAssumption Ended fs = inl refl
-row-adds at Oops Start fs = inl refl
-row-adds at Oops Theory fs = inl refl
-row-adds at Oops (Prove label claim) fs = inl refl
-row-adds at Oops Ended fs = inl refl
-row-adds at End Start fs = inl refl
-row-adds at End Theory fs = inl refl
-row-adds at End (Prove label claim) fs = inl refl
-row-adds at End Ended fs = inl refl
-row-adds at Unreadable s fs = inl refl
+header-keeps : (name : Option (List ℕ)) (s : Stage) (fs : List Finished)
+    → AddsSolved fs (state_after (record { stage = s; finished = fs }) (header_row name fs)).finished
+header-keeps None s fs = inl refl
+header-keeps (Some name) s fs = inl refl
+
+row-adds : (f : Form) (s : Stage) (fs : List Finished) → AddsSolved fs (behind f s fs)
+row-adds (Header imports) Start fs = header-keeps (other_import imports) Start fs
+row-adds (Header imports) Theory fs = inl refl
+row-adds (Header imports) (Prove label claim) fs = inl refl
+row-adds (Header imports) Ended fs = inl refl
+row-adds Prose Start fs = inl refl
+row-adds Prose Theory fs = inl refl
+row-adds Prose (Prove label claim) fs = inl refl
+row-adds Prose Ended fs = inl refl
+row-adds (Lemma name parts) Start fs = lemma-keeps (is_taken fs name) _ _ _ fs
+row-adds (Lemma name parts) Theory fs = lemma-keeps (is_taken fs name) _ _ _ fs
+row-adds (Lemma name parts) (Prove label claim) fs = inl refl
+row-adds (Lemma name parts) Ended fs = inl refl
+row-adds ByAssumption Start fs = inl refl
+row-adds ByAssumption Theory fs = inl refl
+row-adds ByAssumption (Prove label claim) fs = by-adds (is_solved claim) _ _ fs label claim refl
+row-adds ByAssumption Ended fs = inl refl
+row-adds Oops Start fs = inl refl
+row-adds Oops Theory fs = inl refl
+row-adds Oops (Prove label claim) fs = inl refl
+row-adds Oops Ended fs = inl refl
+row-adds End Start fs = inl refl
+row-adds End Theory fs = inl refl
+row-adds End (Prove label claim) fs = inl refl
+row-adds End Ended fs = inl refl
+row-adds (Unreadable p) s fs = inl refl
 
 next-adds : (c : Command) (m : Machine) → AddsSolved m.finished (next c m).finished
-next-adds c m = row-adds c.at c.form m.stage m.finished
+next-adds c m = row-adds c.form m.stage m.finished
 
 -- the theorems before a command are the first of those behind it
 pub next-grows : (c : Command) (m : Machine) → IsFrontOf m.finished (next c m).finished
@@ -164,6 +175,6 @@ unfolding state_behind
 behind-derivable m [] h = h
 behind-derivable m (c ∷ cs) h = behind-derivable (next c m) cs (next-derivable c m h)
 
--- every theorem that a document proves follows from no hypothesis and no axiom
-pub theorems-derivable : (document : List ℕ) → AllDerivable (theorems_of document)
-theorems-derivable document = behind-derivable start (commands_of document) tt
+-- every theorem that commands prove follows from no hypothesis and no axiom
+pub theorems-derivable : (cs : List Command) → AllDerivable (theorems_of cs)
+theorems-derivable cs = behind-derivable start cs tt

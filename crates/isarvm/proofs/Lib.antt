@@ -1,5 +1,4 @@
 pub mod CommandSteps
-pub mod PieceSteps
 pub mod TokenOrder
 pub mod PartSteps
 pub mod WordSteps

@@ -1,10 +1,11 @@
 -- The machine's theorems and names, when one more theorem is kept.
-use Rattle.std.proofs.Common.{◌≡◌, ℕ, Bool, true, false, ◌||◌, List, [], ◌∷◌, ◌++◌, map, refl, sym, ap, ◌∙◌}
+use Rattle.std.proofs.Common.{◌≡◌, ℕ, Bool, true, false, ◌||◌, List, [], ◌∷◌, ◌++◌, map, drop, length, get_or, refl, sym, ap, ◌∙◌, ◌+◌, ◌<◌, arith}
 use Rattle.std.specs.Prelude.{Some}
 use Rattle.std.specs.Str.{bytes_eq}
 use Rattle.iv_kernel.specs.declared.theorems.NamedThm.{NamedThm}
-use Rattle.isarvm.specs.Machine.{is_taken, is_named}
+use Rattle.isarvm.specs.Machine.{is_taken, is_named, is_pure, other_import}
 use Rattle.isarvm.specs.Sound.{IsClosed, AllClosed, seen}
+use Rattle.isarvm.proofs.StatementSteps.{drop-earlier}
 
 pub AllClosed-push : (ns : List NamedThm) (n : NamedThm) → AllClosed ns → IsClosed n.thm → AllClosed (ns ++ n ∷ [])
 AllClosed-push [] n h k = (k, tt)
@@ -30,3 +31,10 @@ pub names-push : (q label : List ℕ) (had : Bool) (ns : List NamedThm) (n : Nam
 names-push q label had ns n e is =
     ap (λ b. bytes_eq q label || b) e ∙ or-last (bytes_eq q label) (is_taken (map seen ns) q)
     ∙ ap (λ x. is_taken (map seen ns) q || (is_named q x || false)) (sym is) ∙ sym (taken-push q ns n)
+
+-- an import other than `Pure`, behind some that are `Pure`
+pub other-here : (names : List (List ℕ)) (i : ℕ) (name : List ℕ) → i < length names → name ≡ get_or names i name → is_pure name ≡ false
+    → other_import (drop i names) ≡ other_import names → Some name ≡ other_import names
+other-here names i name lt is other h =
+    let here : other_import (drop i names) ≡ Some name = rw (drop-earlier names name (i + 1) i (omega arith) refl is, other) refl in
+    sym here ∙ h

@@ -9,13 +9,11 @@ use Rattle.iv_term.specs.declared.term.Term.{Term}
 use Rattle.iv_term.specs.declared.term.Terms.{Terms}
 use Rattle.iv_term.specs.declared.term.Term.TheBlock.{Spine, Nil}
 use Rattle.iv_term.specs.Term.{lam, tm_cons}
-use Rattle.isarvm.specs.declared.pieces.Word.{Word}
-use Rattle.isarvm.specs.declared.pieces.Word.TheVariants as word
 use Rattle.isarvm.specs.declared.refusal.Mode.{Mode}
 use Rattle.isarvm.specs.declared.refusal.Mode.TheVariants.{Start, Theory, Prove, Ended}
 use Rattle.isarvm.specs.declared.refusal.Refusal.{Refusal}
 use Rattle.isarvm.specs.declared.refusal.Refusal.TheVariants as cause
-use Rattle.isarvm.specs.Report.{enclosed, is_constant, is_arrow, variable_text, prop_text, sides_text, conclusion_text, theorem_head, mode_text, word_text, cause_text}
+use Rattle.isarvm.specs.Report.{enclosed, is_constant, is_arrow, variable_text, prop_text, sides_text, conclusion_text, theorem_head, mode_text, cause_text}
 use Rattle.iv_report.specs.Text.{number_text, name_text, place_text}
 use Rattle.isarvm.specs.Line.{is_plain, is_plain_head, is_plain_term, are_plain_terms, is_plain_name, is_plain_cause, TheoremsAreLines, RefusalsAreLines}
 
@@ -98,13 +96,6 @@ plain_mode Theory = refl
 plain_mode Prove = refl
 plain_mode Ended = refl
 
-pub plain_word : (w : Word) → is_plain (word_text w) ≡ true
-plain_word word.Lemma = refl
-plain_word word.By = refl
-plain_word word.Oops = refl
-plain_word word.End = refl
-plain_word word.Unknown = refl
-
 pub plain_place : (line column : ℕ) → is_plain (place_text line column) ≡ true
 plain_place line column = plain_append (decimal line ++ codes ":") (decimal column) (plain_append (decimal line) (codes ":") (plain_decimal line) refl) (plain_decimal column)
 
@@ -117,9 +108,9 @@ plain_cause line column cause.Memory p = refl
 plain_cause line column cause.Number p = refl
 
 pub refusals_are_lines : RefusalsAreLines
-refusals_are_lines line column w r p =
+refusals_are_lines line column own_line own_column w r q p =
     let place = plain_append (codes "refused ") (place_text line column) refl (plain_place line column) in
     let space = plain_append (codes "refused " ++ place_text line column) (codes " ") place refl in
-    let named = plain_append (codes "refused " ++ place_text line column ++ codes " ") (word_text w) space (plain_word w) in
-    let told = plain_append (codes "refused " ++ place_text line column ++ codes " " ++ word_text w) (codes " ") named refl in
-    (codes "refused " ++ place_text line column ++ codes " " ++ word_text w ++ codes " " ++ cause_text line column r, (refl, plain_append (codes "refused " ++ place_text line column ++ codes " " ++ word_text w ++ codes " ") (cause_text line column r) told (plain_cause line column r p)))
+    let named = plain_append (codes "refused " ++ place_text line column ++ codes " ") w space q in
+    let told = plain_append (codes "refused " ++ place_text line column ++ codes " " ++ w) (codes " ") named refl in
+    (codes "refused " ++ place_text line column ++ codes " " ++ w ++ codes " " ++ cause_text own_line own_column r, (refl, plain_append (codes "refused " ++ place_text line column ++ codes " " ++ w ++ codes " ") (cause_text own_line own_column r) told (plain_cause own_line own_column r p)))

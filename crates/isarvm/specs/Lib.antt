@@ -1,5 +1,4 @@
 pub mod Letter
-pub mod Piece
 pub mod Reading
 pub mod Command
 pub mod Refusal

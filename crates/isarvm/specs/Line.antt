@@ -7,7 +7,6 @@ use Rattle.iv_term.specs.declared.term.Term.{Term}
 use Rattle.iv_term.specs.declared.term.Terms.{Terms}
 use Rattle.iv_term.specs.declared.term.Term.TheBlock.{Spine, Nil}
 use Rattle.iv_term.specs.Term.{lam, tm_cons}
-use Rattle.isarvm.specs.declared.pieces.Word.{Word}
 use Rattle.isarvm.specs.declared.refusal.Refusal.{Refusal}
 use Rattle.isarvm.specs.declared.refusal.Refusal.TheVariants as cause
 use Rattle.isarvm.specs.Report.{line_end, theorem_line, refusal_line}
@@ -50,6 +49,6 @@ is_plain_cause _ = true
 abbrev pub TheoremsAreLines : Type 0
 TheoremsAreLines = (name : Option (List ℕ)) (p : Term) → IsTrue (is_plain_name name) → IsTrue (is_plain_term p) → IsLine (theorem_line name p)
 
--- and so is what is printed of a refused command
+-- and so is what is printed of a refused command, if its word is plain
 abbrev pub RefusalsAreLines : Type 0
-RefusalsAreLines = (line column : ℕ) (word : Word) (refusal : Refusal) → IsTrue (is_plain_cause refusal) → IsLine (refusal_line line column word refusal)
+RefusalsAreLines = (line column own_line own_column : ℕ) (word : List ℕ) (refusal : Refusal) → IsTrue (is_plain word) → IsTrue (is_plain_cause refusal) → IsLine (refusal_line line column word own_line own_column refusal)

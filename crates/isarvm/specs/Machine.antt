@@ -1,17 +1,16 @@
--- The machine and its transition table, for `lemma`, `by assumption`, `oops` and `end` (Wenzel 2002).
-use Rattle.std.specs.Prelude.{ℕ, Bool, false, Option, Some, None, List, [], ◌∷◌, ◌++◌, if◌then◌else◌}
+-- The machine and its transition table, for the header, texts, `lemma`, `by assumption`, `oops` and `end` (Wenzel 2002).
+use Rattle.std.specs.Prelude.{ℕ, Bool, false, Option, Some, None, List, [], ◌∷◌, ◌++◌, if◌then◌else◌, codes}
 use Rattle.std.specs.List.{list_any}
 use Rattle.std.specs.Str.{bytes_eq}
 use Rattle.iv_term.specs.declared.term.Term.{Term}
 use Rattle.isarvm.specs.declared.commands.Command.{Command}
 use Rattle.isarvm.specs.declared.commands.Form.{Form}
-use Rattle.isarvm.specs.declared.commands.Form.TheVariants.{Lemma, ByAssumption, Oops, End, Unreadable}
+use Rattle.isarvm.specs.declared.commands.Form.TheVariants.{Header, Prose, Lemma, ByAssumption, Oops, End, Unreadable}
 use Rattle.isarvm.specs.declared.refusal.Mode.{Mode}
 use Rattle.isarvm.specs.declared.refusal.Mode.TheVariants as mode
 use Rattle.isarvm.specs.declared.refusal.Refusal.{Refusal}
-use Rattle.isarvm.specs.declared.refusal.Refusal.TheVariants.{Syntax, Mode as WrongMode, Name as Taken, Empty}
+use Rattle.isarvm.specs.declared.refusal.Refusal.TheVariants.{Syntax, Mode as WrongMode, Name as BadName, Empty}
 use Rattle.isarvm.specs.Statement.{statement_of, schematic_var, is_solved}
-use Rattle.iv_text.specs.declared.Pos.{Pos}
 
 -- a finished theorem: its name, where it has one, and its proposition
 pub record Finished : Type 0 where
@@ -62,10 +61,31 @@ wrong_mode s = Refused (WrongMode (mode_of s))
 abbrev pub theorem_of : List ℕ → List (List ℕ) → Finished
 theorem_of name parts = record { name = Some name; prop = statement_of schematic_var parts }
 
+-- whether a name is that of the one theory that is there from the start
+abbrev pub is_pure : List ℕ → Bool
+is_pure name = bytes_eq name (codes "Pure")
+
+-- the first import other than `Pure`
+abbrev pub other_import : List (List ℕ) → Option (List ℕ)
+other_import [] = None
+other_import (name ∷ names) = if is_pure name then other_import names else Some name
+
 -- the rows of the table, one a command
+abbrev pub header_row : Option (List ℕ) → List Finished → Outcome
+header_row None finished = Accepted (record { stage = Theory; finished = finished })
+header_row (Some name) finished = Refused (BadName name)
+
+abbrev pub header_at : List (List ℕ) → Stage → List Finished → Outcome
+header_at imports Start finished = header_row (other_import imports) finished
+header_at imports s finished = wrong_mode s
+
+abbrev pub prose_at : Stage → List Finished → Outcome
+prose_at Ended finished = wrong_mode Ended
+prose_at s finished = Accepted (record { stage = s; finished = finished })
+
 abbrev pub lemma_row : List ℕ → List (List ℕ) → List Finished → Outcome
 lemma_row name parts finished =
-    if is_taken finished name then Refused (Taken name) else Accepted (record { stage = Prove name parts; finished = finished })
+    if is_taken finished name then Refused (BadName name) else Accepted (record { stage = Prove name parts; finished = finished })
 
 abbrev pub lemma_at : List ℕ → List (List ℕ) → Stage → List Finished → Outcome
 lemma_at name parts Start finished = lemma_row name parts finished
@@ -87,16 +107,18 @@ end_at Theory finished = Accepted (record { stage = Ended; finished = finished }
 end_at s finished = wrong_mode s
 
 -- the table: what a form does in a state; an unreadable one is refused at its place
-abbrev pub row : Pos → Form → Machine → Outcome
-row at (Lemma name parts) m = lemma_at name parts m.stage m.finished
-row at ByAssumption m = by_at m.stage m.finished
-row at Oops m = oops_at m.stage m.finished
-row at End m = end_at m.stage m.finished
-row at Unreadable m = Refused (Syntax at)
+abbrev pub row : Form → Machine → Outcome
+row (Header imports) m = header_at imports m.stage m.finished
+row Prose m = prose_at m.stage m.finished
+row (Lemma name parts) m = lemma_at name parts m.stage m.finished
+row ByAssumption m = by_at m.stage m.finished
+row Oops m = oops_at m.stage m.finished
+row End m = end_at m.stage m.finished
+row (Unreadable p) m = Refused (Syntax p)
 
 -- what a command does in a state
 abbrev pub executed : Command → Machine → Outcome
-executed c m = row c.at c.form m
+executed c m = row c.form m
 
 -- the state behind an outcome: a refused command leaves it as it was
 abbrev pub state_after : Machine → Outcome → Machine

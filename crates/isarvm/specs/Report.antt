@@ -8,8 +8,6 @@ use Rattle.iv_term.specs.declared.term.Terms.{Terms}
 use Rattle.iv_term.specs.declared.term.Term.TheBlock.{Spine, Nil}
 use Rattle.iv_term.specs.Term.{lam, tm_cons}
 use Rattle.iv_report.specs.Text.{only_if, name_text, place_text}
-use Rattle.isarvm.specs.declared.pieces.Word.{Word}
-use Rattle.isarvm.specs.declared.pieces.Word.TheVariants as word
 use Rattle.isarvm.specs.declared.refusal.Mode.{Mode}
 use Rattle.isarvm.specs.declared.refusal.Mode.TheVariants.{Start, Theory, Prove, Ended}
 use Rattle.isarvm.specs.declared.refusal.Refusal.{Refusal}
@@ -71,15 +69,7 @@ mode_text Theory = codes "theory"
 mode_text Prove = codes "prove"
 mode_text Ended = codes "ended"
 
--- how a command word is spelt, and `?` for any other token
-abbrev pub word_text : Word → List ℕ
-word_text word.Lemma = codes "lemma"
-word_text word.By = codes "by"
-word_text word.Oops = codes "oops"
-word_text word.End = codes "end"
-word_text word.Unknown = codes "?"
-
--- why a command at this line and column was refused
+-- why a command was refused, at this line and column
 abbrev pub cause_text : ℕ → ℕ → Refusal → List ℕ
 cause_text line column (cause.Syntax at) = codes "syntax " ++ place_text line column
 cause_text line column (cause.Mode mode) = codes "mode " ++ mode_text mode
@@ -88,10 +78,10 @@ cause_text line column cause.Empty = codes "empty"
 cause_text line column cause.Memory = []
 cause_text line column cause.Number = []
 
--- the line that reports that the command of this word at this line and column was refused
-abbrev pub refusal_line : ℕ → ℕ → Word → Refusal → List ℕ
-refusal_line line column word refusal =
-    codes "refused " ++ place_text line column ++ codes " " ++ word_text word ++ codes " " ++ cause_text line column refusal ++ line_end
+-- the line that reports that the command of this word was refused: its line and column, its word, and why, at the line and column of the refusal
+abbrev pub refusal_line : ℕ → ℕ → List ℕ → ℕ → ℕ → Refusal → List ℕ
+refusal_line line column word own_line own_column refusal =
+    codes "refused " ++ place_text line column ++ codes " " ++ word ++ codes " " ++ cause_text own_line own_column refusal ++ line_end
 
 -- the line that counts theorems and refusals, and says whether the document has ended
 abbrev pub count_line : ℕ → ℕ → Bool → List ℕ

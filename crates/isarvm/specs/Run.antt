@@ -3,9 +3,10 @@ use Rattle.std.specs.Prelude.{◌≡◌, ℕ, ◌+◌, Bool, true, false, ◌&&�
 use Rattle.std.specs.List.{flat_map}
 use Rattle.iv_term.specs.Derivation.{Derivable}
 use Rattle.isarvm.specs.declared.commands.Command.{Command}
-use Rattle.isarvm.specs.Command.{commands_of}
 use Rattle.iv_report.specs.Place.{line_of, column_of}
 use Rattle.isarvm.specs.Machine.{Finished, Machine, Stage, Ended, Outcome, Refused, Accepted, start, executed, next}
+use Rattle.isarvm.specs.declared.refusal.Refusal.{Refusal}
+use Rattle.isarvm.specs.Refusal.{place_of}
 use Rattle.isarvm.specs.Report.{theorem_line, refusal_line, count_line}
 use Rattle.iv_words.specs.declared.words.Task.{Task}
 use Rattle.iv_words.specs.declared.words.Task.TheVariants.{Check, Count}
@@ -14,9 +15,14 @@ use Rattle.iv_words.specs.declared.words.Task.TheVariants.{Check, Count}
 abbrev pub line_of_finished : Finished → List ℕ
 line_of_finished f = theorem_line f.name f.prop
 
+-- the line of a refused command, with its place and that of the refusal
+abbrev pub refused_line : List ℕ → Command → Refusal → List ℕ
+refused_line document c r =
+    refusal_line (line_of document c.at.0) (column_of document c.at.0) c.word (line_of document (place_of c.at r).0) (column_of document (place_of c.at r).0) r
+
 -- what is reported of a command: the theorems that it finished, or why it was refused
 abbrev pub lines_of : List ℕ → Command → Machine → Outcome → List ℕ
-lines_of document c m (Refused r) = refusal_line (line_of document c.at.0) (column_of document c.at.0) c.word r
+lines_of document c m (Refused r) = refused_line document c r
 lines_of document c m (Accepted n) = flat_map line_of_finished (drop (length m.finished) n.finished)
 
 -- what is reported of some commands, executed in order
@@ -56,22 +62,22 @@ abbrev pub reported : Task → List ℕ → Machine → List Command → List �
 reported Check document m cs = report_from document m cs
 reported Count document m cs = counts_behind m cs
 
--- the report of a document, as bytes
-abbrev pub report_of : Task → List ℕ → List ℕ
-report_of task document = encode_utf8_all (reported task document start (commands_of document))
+-- the report of a document with these commands, as bytes
+abbrev pub report_of : Task → List ℕ → List Command → List ℕ
+report_of task document cs = encode_utf8_all (reported task document start cs)
 
--- the theorems that a document proves, in order
-abbrev pub theorems_of : List ℕ → List Finished
-theorems_of document = (state_behind start (commands_of document)).finished
+-- the theorems that commands prove, in order
+abbrev pub theorems_of : List Command → List Finished
+theorems_of cs = (state_behind start cs).finished
 
 -- each of some theorems follows from no hypothesis and no axiom
 abbrev pub AllDerivable : List Finished → Type 0
 AllDerivable [] = Unit {0}
 AllDerivable (f ∷ fs) = Derivable [] f.prop × AllDerivable fs
 
--- whether a document is accepted: no command is refused, and the last one is `end`
-abbrev pub is_done : List ℕ → Bool
-is_done document = all_accepted start (commands_of document) && is_ended (state_behind start (commands_of document)).stage
+-- whether a document with these commands is accepted: none is refused, and the last one is `end`
+abbrev pub is_done : List Command → Bool
+is_done cs = all_accepted start cs && is_ended (state_behind start cs).stage
 
 -- some texts are the first of others
 abbrev pub IsFrontOf : {X : Type 0} → List X → List X → Type 0

@@ -1,23 +1,29 @@
-ghost use Rattle.std.specs.Prelude.{◌≡◌, ◌≤◌, ◌<◌, length, map, IfOk, IfErr};
+ghost use Rattle.std.specs.Prelude.{◌≡◌, ◌≤◌, ◌<◌, ◌∷◌, List, length, map, IfOk, IfErr};
 ghost use Rattle.std.specs.List.{All, AllPairs};
 ghost use Rattle.iv_term.specs.declared.want.Want.TheVariants.{Memory};
-ghost use Rattle.iv_lex.specs.Place.{AreInOrder};
-ghost use Rattle.isarvm.specs.Piece.{run_of, IsRunBefore, IsRun};
-ghost use Rattle.isarvm.specs.Command.{is_name, is_quoted, is_colon, is_assumption, lemma_form, after_lemma, after_by, form_after, command_of, commands_of, IsNoLater, BeginsIn};
+ghost use Rattle.iv_lex.specs.declared.cutting.Token.{Token};
+ghost use Rattle.iv_outer.specs.Command.{IsPlaced, HasPlace, at_of};
+ghost use Rattle.isarvm.specs.Command.{is_name, is_quoted, is_colon, is_left, is_assumption, unbuilt, lemma_form, stated_form, labelled_form, lemma_of, by_form, by_of, texts_of, form_of, built_of, place_in, run_of, runs_of, AreEach, IsRead, IsRun, IsCommands, IsNoLater, StandsIn};
 
 use crate::letters::rest_from;
 use crate::parts::Parts;
-use crate::pieces::{Piece, Word, split};
 use crate::reading::reading_of;
+use iv_forms::{Body, Items};
 use iv_lex::{Kind, Token, tokens};
+use iv_outer::laws::pieces_are_joined;
+use iv_outer::{Command as Read, Piece, Reading, command, split};
 use iv_report::LIMIT;
 use iv_term::{Mem, Text};
 use iv_text::Pos;
 use std::alloc::Global;
 
-/// What a command says.
+/// What is built of a command.
 #[derive(Drop)]
 pub enum Form {
+    /// `theory NAME imports NAME .. begin`: its imports, in order.
+    Header(Items<Text>),
+    /// A command that only holds a text, as `text`.
+    Prose,
     /// `lemma NAME: "PROP A ==> .. ==> PROP C"`: its name, and the names in its proposition, in order.
     Lemma(Text, Parts),
     /// `by assumption`
@@ -26,8 +32,8 @@ pub enum Form {
     Oops,
     /// `end`
     End,
-    /// Anything else.
-    Unreadable,
+    /// Nothing: no form goes on at this place, or the part that begins there isn't built.
+    Unreadable(Pos),
 }
 
 /// A command of a document.
@@ -35,8 +41,8 @@ pub enum Form {
 pub struct Command {
     /// Where its first token begins.
     pub at: Pos,
-    /// Its first token, if that is a command word.
-    pub word: Word,
+    /// Its command word, or `?` where it begins with none.
+    pub word: Text,
     /// What it says.
     pub form: Form,
 }
@@ -71,6 +77,16 @@ fn is_colon(token: &Token) -> bool
     }
 }
 
+/// Whether a token is the delimiter `[`.
+fn is_left(token: &Token) -> bool
+    ensures { result ≡ is_left token.now }
+{
+    match token.kind {
+        Kind::Single => token.text.is_chars(&['[']),
+        _ => false,
+    }
+}
+
 /// Whether a token is the word `assumption`.
 fn is_assumption(token: &Token) -> bool
     ensures { result ≡ is_assumption token.now }
@@ -83,90 +99,184 @@ fn is_assumption(token: &Token) -> bool
     }
 }
 
-/// The form of `lemma`, with these tokens after it. Fails where memory runs out.
-pub fn after_lemma(alloc: Global, rest: &[Token]) -> Mem<Form>
-    ensures ok { IfOk result (λ form. form ≡ after_lemma rest.now) }
+/// The part that begins at a token isn't built.
+fn unbuilt(token: &Token) -> Form
+    ensures { result ≡ unbuilt token.now }
+{
+    Form::Unreadable(token.at)
+}
+
+/// A lemma of this name, if its proposition reads and no token is behind it.
+fn lemma_form(name: Text, text: &Token, reading: Option<Parts>, rest: &[Token]) -> Form
+    ensures { result ≡ lemma_form name text.now reading rest.now }
+{
+    let Some(parts) = reading else {
+        return unbuilt(text);
+    };
+    match rest {
+        [] => Form::Lemma(name, parts),
+        [more, ..] => unbuilt(more),
+    }
+}
+
+/// What is built behind `NAME:`. Fails where memory runs out.
+fn stated_form(alloc: Global, name: &Token, text: &Token, rest: &[Token]) -> Mem<Form>
+    ensures ok { IfOk result (λ form. form ≡ stated_form name.now text.now rest.now) }
     ensures memory { IfErr result (λ w. w ≡ Memory) }
 {
-    let [name, colon, text] = rest else {
-        return Ok(Form::Unreadable);
-    };
-    if !is_name(name) || !is_colon(colon) || !is_quoted(text) {
-        return Ok(Form::Unreadable);
+    if !is_quoted(text) {
+        return Ok(unbuilt(text));
     }
     let reading = reading_of(alloc, text.text.as_slice())?;
     let label = name.text.copy()?;
-    Ok(lemma_form(label, reading))
+    Ok(lemma_form(label, text, reading, rest))
 }
 
-/// A lemma of this name, if its proposition reads.
-pub fn lemma_form(name: Text, reading: Option<Parts>) -> Form
-    ensures { result ≡ lemma_form name reading }
+/// What is built where a name may stand before `:` or `[`. Fails where memory runs out.
+fn labelled_form(
+    alloc: Global,
+    name: &Token,
+    mark: &Token,
+    text: &Token,
+    rest: &[Token],
+) -> Mem<Form>
+    ensures ok { IfOk result (λ form. form ≡ labelled_form name.now mark.now text.now rest.now) }
+    ensures memory { IfErr result (λ w. w ≡ Memory) }
 {
-    match reading {
-        Some(parts) => Form::Lemma(name, parts),
-        None => Form::Unreadable,
+    if !is_name(name) {
+        return Ok(unbuilt(name));
     }
+    if is_colon(mark) {
+        return stated_form(alloc, name, text, rest);
+    }
+    if is_left(mark) {
+        return Ok(unbuilt(mark));
+    }
+    Ok(unbuilt(name))
 }
 
-/// The form of `by`, with these tokens after it.
-pub fn after_by(rest: &[Token]) -> Form
-    ensures { result ≡ after_by rest.now }
+/// What is built of `lemma`, by the tokens behind it. Fails where memory runs out.
+fn lemma_of(alloc: Global, word: &Token, rest: &[Token]) -> Mem<Form>
+    ensures ok { IfOk result (λ form. form ≡ lemma_of word.now rest.now) }
+    ensures memory { IfErr result (λ w. w ≡ Memory) }
 {
     match rest {
-        [method] if is_assumption(method) => Form::ByAssumption,
-        _ => Form::Unreadable,
+        [] => Ok(unbuilt(word)),
+        [name] => Ok(unbuilt(name)),
+        [name, _mark] => Ok(unbuilt(name)),
+        [name, mark, text, ..] => labelled_form(alloc, name, mark, text, rest_from(rest, 3)),
     }
 }
 
-/// The form of a command word, with these tokens after it. Fails where memory runs out.
-pub fn form_after(alloc: Global, word: Word, rest: &[Token]) -> Mem<Form>
-    ensures ok { IfOk result (λ form. form ≡ form_after word rest.now) }
+/// `by assumption`, if no token is behind it.
+fn by_form(rest: &[Token]) -> Form
+    ensures { result ≡ by_form rest.now }
+{
+    match rest {
+        [] => Form::ByAssumption,
+        [more, ..] => unbuilt(more),
+    }
+}
+
+/// What is built of `by`, by the tokens behind it.
+fn by_of(word: &Token, rest: &[Token]) -> Form
+    ensures { result ≡ by_of word.now rest.now }
+{
+    match rest {
+        [] => unbuilt(word),
+        [method, ..] => {
+            if is_assumption(method) {
+                by_form(rest_from(rest, 1))
+            } else {
+                unbuilt(method)
+            }
+        }
+    }
+}
+
+/// The texts of tokens. Fails where memory runs out.
+fn texts_of(alloc: Global, tokens: &[Token]) -> Mem<Items<Text>>
+    ensures ok { IfOk result (λ texts. texts ≡ texts_of tokens.now) }
     ensures memory { IfErr result (λ w. w ≡ Memory) }
 {
-    match word {
-        Word::Lemma => after_lemma(alloc, rest),
-        Word::By => Ok(after_by(rest)),
-        Word::Oops if rest.is_empty() => Ok(Form::Oops),
-        Word::End if rest.is_empty() => Ok(Form::End),
-        _ => Ok(Form::Unreadable),
+    let mut texts = Items::new(alloc);
+    for token in tokens {
+        texts.push(token.text.copy()?)?;
+    }
+    Ok(texts)
+}
+
+/// What is built of a form that reads these tokens. Fails where memory runs out.
+fn form_of(alloc: Global, body: &Body, word: &Token, rest: &[Token]) -> Mem<Form>
+    ensures ok { IfOk result (λ form. form ≡ form_of body.now word.now rest.now) }
+    ensures placed { IfOk result (λ form. HasPlace (place_in word.now.at form) (word.now ∷ rest.now)) }
+    ensures memory { IfErr result (λ w. w ≡ Memory) }
+{
+    match body {
+        Body::Theory(_name, imports) => {
+            let names = texts_of(alloc, imports.as_slice())?;
+            Ok(Form::Header(names))
+        }
+        Body::End => Ok(Form::End),
+        Body::Chapter(_text) => Ok(Form::Prose),
+        Body::Section(_text) => Ok(Form::Prose),
+        Body::Subsection(_text) => Ok(Form::Prose),
+        Body::Subsubsection(_text) => Ok(Form::Prose),
+        Body::Paragraph(_text) => Ok(Form::Prose),
+        Body::Subparagraph(_text) => Ok(Form::Prose),
+        Body::Prose(_text) => Ok(Form::Prose),
+        Body::Txt(_text) => Ok(Form::Prose),
+        Body::Lemma(_statement) => lemma_of(alloc, word, rest),
+        Body::By(_first, _second) => Ok(by_of(word, rest)),
+        Body::Oops => Ok(Form::Oops),
+        _ => Ok(unbuilt(word)),
     }
 }
 
-/// The command that a piece is read as. Fails where memory runs out.
-pub fn read_command(alloc: Global, tokens: &[Token]) -> Mem<Command>
+/// What is built of the reading of a piece. Fails where memory runs out.
+fn built_of(alloc: Global, reading: &Reading, tokens: &[Token]) -> Mem<Form>
     requires some { 0 < length tokens.now }
-    ensures ok { IfOk result (λ c. c ≡ command_of tokens.now) }
+    requires placed { IsPlaced reading.now tokens.now }
+    ensures ok { IfOk result (λ form. form ≡ built_of reading.now tokens.now) }
+    ensures placed { IfOk result (λ form. HasPlace (place_in (at_of tokens.now) form) tokens.now) }
     ensures memory { IfErr result (λ w. w ≡ Memory) }
 {
-    let first = &tokens[0];
-    let word = Word::of(first);
-    let form = form_after(alloc, word, rest_from(tokens, 1))?;
-    Ok(Command {
-        at: first.at,
-        word,
-        form,
-    })
+    match reading {
+        Reading::Unreadable(at) => Ok(Form::Unreadable(*at)),
+        Reading::Form(body) => form_of(alloc, body, &tokens[0], rest_from(tokens, 1)),
+    }
+}
+
+/// The command that a piece is read as, with what is built of it. Fails where memory runs out.
+fn read_command(alloc: Global, tokens: &[Token]) -> Mem<Command>
+    requires some { 0 < length tokens.now }
+    ensures read { IfOk result (λ c. IsRead tokens.now c) }
+    ensures memory { IfErr result (λ w. w ≡ Memory) }
+{
+    let Read { at, word, reading } = command(alloc, tokens)?;
+    let form = built_of(alloc, &reading, tokens)?;
+    Ok(Command { at, word, form })
+}
+
+/// The tokens of a piece.
+fn run_of(tokens: &[Token], piece: Piece) -> &[Token]
+    requires { IsRun tokens.now piece }
+    ensures { result.now ≡ run_of tokens.now piece }
+{
+    let first = piece.first as usize;
+    let rest = &tokens[first..];
+    &rest[..piece.count as usize]
 }
 
 /// The commands that these pieces are read as. Fails where memory runs out.
-pub fn commands_in(
-    alloc: Global,
-    document: &[u8],
-    tokens: &[Token],
-    pieces: &[Piece],
-) -> Mem<Vec<Command>>
-    requires in_order { AreInOrder 0 (length document.now) tokens.now }
-    requires runs { All (IsRun tokens.now) pieces.now }
-    requires ordered { AllPairs IsRunBefore pieces.now }
-    ensures ok { IfOk result (λ v. v.items ≡ map command_of (map (run_of tokens.now) pieces.now)) }
-    ensures ordered { IfOk result (λ v. AllPairs IsNoLater v.items) }
-    ensures inside { IfOk result (λ v. All (BeginsIn document.now) v.items) }
+fn commands_in(alloc: Global, tokens: &[Token], pieces: &[Piece]) -> Mem<Vec<Command>>
+    requires { All (IsRun tokens.now) pieces.now }
+    ensures read { IfOk result (λ v. AreEach IsRead (map (run_of tokens.now) pieces.now) v.items) }
     ensures memory { IfErr result (λ w. w ≡ Memory) }
 {
     let mut found = Vec::new(alloc);
     for piece in pieces {
-        let read = read_command(alloc, piece.run(tokens))?;
+        let read = read_command(alloc, run_of(tokens, *piece))?;
         found.push(read)?;
     }
     Ok(found)
@@ -175,12 +285,15 @@ pub fn commands_in(
 /// The commands of a document, in order. Fails where memory runs out.
 pub fn commands(alloc: Global, document: &[u8]) -> Mem<Vec<Command>>
     requires small { length document.now ≤ LIMIT }
-    ensures ok { IfOk result (λ v. v.items ≡ commands_of document.now) }
+    ensures commands { IfOk result (λ v. IsCommands document.now v.items) }
+    ensures only { IfOk result (λ v. (cs : List Command) → IsCommands document.now cs → cs ≡ v.items) }
     ensures ordered { IfOk result (λ v. AllPairs IsNoLater v.items) }
-    ensures inside { IfOk result (λ v. All (BeginsIn document.now) v.items) }
+    ensures inside { IfOk result (λ v. All (StandsIn document.now) v.items) }
     ensures memory { IfErr result (λ w. w ≡ Memory) }
 {
+    pieces_are_joined();
     let all = tokens(alloc, document)?;
     let pieces = split(alloc, all.as_slice())?;
-    commands_in(alloc, document, all.as_slice(), pieces.as_slice())
+    let found = commands_in(alloc, all.as_slice(), pieces.as_slice())?;
+    Ok(found)
 }

@@ -1,5 +1,6 @@
-ghost use Rattle.std.specs.Prelude.{◌≡◌, ◌≢◌, [], ◌∷◌, ◌++◌, map, Some, OnOk, OnErr, IfErr};
-ghost use Rattle.isarvm.specs.Machine.{start, Theory, executed, lemma_row, lemma_at, by_at, oops_at, end_at, theorem_of, Accepted, Refused};
+ghost use Rattle.std.specs.Prelude.{◌≡◌, ◌≢◌, [], ◌∷◌, ◌++◌, map, Some, option_copied, OnOk, OnErr, IfErr};
+ghost use Rattle.std.specs.Str.{bytes_eq};
+ghost use Rattle.isarvm.specs.Machine.{start, Theory, executed, is_pure, other_import, header_row, header_at, prose_at, lemma_row, lemma_at, by_at, oops_at, end_at, theorem_of, Accepted, Refused};
 ghost use Rattle.isarvm.specs.Run.{is_ended};
 ghost use Rattle.isarvm.specs.Sound.{IsClosed, IsSound, machine_of, stage_of, seen};
 
@@ -8,6 +9,7 @@ use crate::commands::{Command, Form};
 use crate::names::Names;
 use crate::parts::Parts;
 use crate::refusal::{Mode, Refusal};
+use iv_forms::Items;
 use iv_kernel::{NamedThm, Theorems, Thm};
 use iv_term::Text;
 use std::alloc::Global;
@@ -23,6 +25,25 @@ pub enum Phase {
     Prove(Claim),
     /// Behind `end`.
     Ended,
+}
+
+/// Whether a name is `Pure`.
+fn is_pure(name: &Text) -> bool
+    ensures { result ≡ is_pure name.now }
+{
+    name.is_chars(&['P', 'u', 'r', 'e'])
+}
+
+/// The first import other than `Pure`.
+fn other_import(imports: &[Text]) -> Option<&Text>
+    ensures { option_copied result ≡ other_import imports.now }
+{
+    for import in imports {
+        if !is_pure(import) {
+            return Some(import);
+        }
+    }
+    None
 }
 
 /// The machine that executes the commands of a document.
@@ -84,11 +105,59 @@ impl Vm {
         ensures sound { IsSound self.new }
     {
         match &command.form {
+            Form::Header(imports) => self.header(imports),
+            Form::Prose => self.prose(),
             Form::Lemma(name, parts) => self.lemma(name, parts),
             Form::ByAssumption => self.by_assumption(),
             Form::Oops => self.oops(),
             Form::End => self.end(),
-            Form::Unreadable => Err(Refusal::Syntax(command.at)),
+            Form::Unreadable(at) => Err(Refusal::Syntax(*at)),
+        }
+    }
+
+    /// Begins the theory.
+    fn header(&mut self, imports: &Items<Text>) -> Result<(), Refusal>
+        requires { IsSound self.old }
+        ensures accepted { OnOk result (header_at imports.now (stage_of self.old.phase) (map seen self.old.theorems) ≡ Accepted (machine_of self.new)) }
+        ensures refused { IfErr result (λ r. r ≢ Refusal.Memory → header_at imports.now (stage_of self.old.phase) (map seen self.old.theorems) ≡ Refused r) }
+        ensures keeps { OnErr result (machine_of self.new ≡ machine_of self.old) }
+        ensures sound { IsSound self.new }
+    {
+        match &self.phase {
+            Phase::Start => self.begin(imports.as_slice()),
+            Phase::Theory => Err(Refusal::Mode(Mode::Theory)),
+            Phase::Prove(_claim) => Err(Refusal::Mode(Mode::Prove)),
+            Phase::Ended => Err(Refusal::Mode(Mode::Ended)),
+        }
+    }
+
+    /// Begins a theory that imports `Pure` alone.
+    fn begin(&mut self, imports: &[Text]) -> Result<(), Refusal>
+        requires { IsSound self.old }
+        ensures accepted { OnOk result (header_row (other_import imports.now) (map seen self.old.theorems) ≡ Accepted (machine_of self.new)) }
+        ensures refused { IfErr result (λ r. r ≢ Refusal.Memory → header_row (other_import imports.now) (map seen self.old.theorems) ≡ Refused r) }
+        ensures keeps { OnErr result (machine_of self.new ≡ machine_of self.old) }
+        ensures sound { IsSound self.new }
+    {
+        match other_import(imports) {
+            Some(name) => Err(Refusal::Name(name.copy()?)),
+            None => {
+                self.phase = Phase::Theory;
+                Ok(())
+            }
+        }
+    }
+
+    /// Passes a text.
+    fn prose(&self) -> Result<(), Refusal>
+        ensures accepted { OnOk result (prose_at (stage_of self.now.phase) (map seen self.now.theorems) ≡ Accepted (machine_of self.now)) }
+        ensures refused { IfErr result (λ r. prose_at (stage_of self.now.phase) (map seen self.now.theorems) ≡ Refused r) }
+    {
+        match &self.phase {
+            Phase::Ended => Err(Refusal::Mode(Mode::Ended)),
+            Phase::Start => Ok(()),
+            Phase::Theory => Ok(()),
+            Phase::Prove(_claim) => Ok(()),
         }
     }
 

@@ -13,7 +13,6 @@ pub mod lines;
 pub mod machine;
 pub mod names;
 pub mod parts;
-pub mod pieces;
 pub mod prove;
 pub mod reading;
 pub mod refusal;

@@ -1,4 +1,5 @@
 ghost use Rattle.std.specs.Prelude.{◌≡◌};
+ghost use Rattle.isarvm.specs.Refusal.{place_of};
 
 use iv_term::{Text, Want};
 use iv_text::Pos;
@@ -19,11 +20,11 @@ pub enum Mode {
 /// Why a command was refused.
 #[derive(Drop)]
 pub enum Refusal {
-    /// No form reads it; its place.
+    /// No form goes on at this place, or what begins there isn't built.
     Syntax(Pos),
     /// The machine takes no such command in this mode.
     Mode(Mode),
-    /// It declares this name, which is there.
+    /// It declares this name, which is there, or imports it, which isn't.
     Name(Text),
     /// No premise is the conclusion.
     Empty,
@@ -31,6 +32,18 @@ pub enum Refusal {
     Memory,
     /// A number of 4,294,967,295 or more was to be made.
     Number,
+}
+
+impl Refusal {
+    /// Its own place, or `at` where it has none.
+    pub fn place_or(&self, at: Pos) -> Pos
+        ensures { result ≡ place_of at self.now }
+    {
+        match self {
+            Refusal::Syntax(own) => *own,
+            _ => at,
+        }
+    }
 }
 
 impl From<Want> for Refusal {

@@ -2,9 +2,8 @@
 ghost use Rattle.std.specs.Prelude.{◌≡◌, ◌++◌, if◌then◌else◌, codes, OnOk, IfOk, IfErr};
 ghost use Rattle.std.specs.Option.{option_copied};
 ghost use Rattle.iv_term.specs.declared.want.Want.TheVariants.{Memory};
-ghost use Rattle.isarvm.specs.Report.{is_constant, is_arrow, enclosed, variable_text, prop_text, theorem_head, theorem_line, mode_text, word_text, cause_text, refusal_line, count_line};
+ghost use Rattle.isarvm.specs.Report.{is_constant, is_arrow, enclosed, variable_text, prop_text, theorem_head, theorem_line, mode_text, cause_text, refusal_line, count_line};
 
-use crate::pieces::Word;
 use crate::refusal::{Mode, Refusal};
 use iv_report::text::{
     push_ascii, push_char, push_char_if, push_decimal, push_name, push_place, push_text,
@@ -126,20 +125,7 @@ fn mode_text(mode: Mode) -> &'static [u8]
     }
 }
 
-/// How a command word is spelt, and `?` for any other token.
-fn word_text(word: Word) -> &'static [u8]
-    ensures { result.now ≡ word_text word }
-{
-    match word {
-        Word::Lemma => b"lemma",
-        Word::By => b"by",
-        Word::Oops => b"oops",
-        Word::End => b"end",
-        Word::Unknown => b"?",
-    }
-}
-
-/// Writes why a command at this line and column was refused. Fails where memory runs out.
+/// Writes why a command was refused, at this line and column. Fails where memory runs out.
 fn push_cause(out: &mut Vec<char>, line: u32, column: u32, refusal: &Refusal) -> Mem<()>
     ensures ok { OnOk result (out.new.items ≡ out.old.items ++ cause_text line column refusal.now) }
     ensures memory { IfErr result (λ w. w ≡ Memory) }
@@ -164,24 +150,24 @@ fn push_cause(out: &mut Vec<char>, line: u32, column: u32, refusal: &Refusal) ->
 }
 
 /// The line that reports that a command was refused, with a line feed at its end: the 1-based line and
-/// column of its first token, its word, and why. Fails where memory runs out.
+/// column of its first token, its word, and why, with those of the refusal. Fails where memory runs out.
 pub fn refusal_line(
     alloc: Global,
-    line: u32,
-    column: u32,
-    word: Word,
+    at: (u32, u32),
+    word: &Text,
+    own: (u32, u32),
     refusal: &Refusal,
 ) -> Mem<Text>
-    ensures ok { IfOk result (λ t. t ≡ refusal_line line column word refusal.now) }
+    ensures ok { IfOk result (λ t. t ≡ refusal_line at.0 at.1 word.now own.0 own.1 refusal.now) }
     ensures memory { IfErr result (λ w. w ≡ Memory) }
 {
     let mut out = Vec::new(alloc);
     push_ascii(&mut out, b"refused ")?;
-    push_place(&mut out, line, column)?;
+    push_place(&mut out, at.0, at.1)?;
     push_char(&mut out, ' ')?;
-    push_ascii(&mut out, word_text(word))?;
+    push_text(&mut out, word)?;
     push_char(&mut out, ' ')?;
-    push_cause(&mut out, line, column, refusal)?;
+    push_cause(&mut out, own.0, own.1, refusal)?;
     push_char(&mut out, '\n')?;
     Text::from_vec(alloc, out)
 }

@@ -1,4 +1,3 @@
-use crate::pieces::Word;
 use crate::refusal::{Mode, Refusal};
 use crate::report::{refusal_line, theorem_line};
 use iv_report::text::encoded;
@@ -40,13 +39,14 @@ fn is_spelt(rt: &HostRuntime, line: &Text, expected: &str) -> Result<bool, Fail>
 
 fn refused(
     rt: &HostRuntime,
-    line: u32,
-    column: u32,
-    word: Word,
+    at: (u32, u32),
+    word: &str,
+    own: (u32, u32),
     refusal: Refusal,
     expected: &str,
 ) -> Result<bool, Fail> {
-    let written = refusal_line(rt.alloc(), line, column, word, &refusal)?;
+    let word = text(rt, word)?;
+    let written = refusal_line(rt.alloc(), at, &word, own, &refusal)?;
     is_spelt(rt, &written, expected)
 }
 
@@ -55,9 +55,9 @@ fn refused_commands(rt: HostRuntime) -> Result<(), Fail> {
     assert!(rt;
         refused(
             &rt,
-            1,
-            30,
-            Word::By,
+            (1, 30),
+            "by",
+            (1, 30),
             Refusal::Empty,
             "refused 1:30 by empty\n"
         )?
@@ -65,19 +65,19 @@ fn refused_commands(rt: HostRuntime) -> Result<(), Fail> {
     assert!(rt;
         refused(
             &rt,
-            1,
-            1,
-            Word::Lemma,
-            Refusal::Syntax(Pos(0)),
-            "refused 1:1 lemma syntax 1:1\n"
+            (1, 1),
+            "lemma",
+            (2, 7),
+            Refusal::Syntax(Pos(12)),
+            "refused 1:1 lemma syntax 2:7\n"
         )?
     );
     assert!(rt;
         refused(
             &rt,
-            3,
-            4294967295,
-            Word::Oops,
+            (3, 4294967295),
+            "oops",
+            (3, 4294967295),
             Refusal::Mode(Mode::Prove),
             "refused 3:4294967295 oops mode prove\n"
         )?
@@ -85,9 +85,9 @@ fn refused_commands(rt: HostRuntime) -> Result<(), Fail> {
     assert!(rt;
         refused(
             &rt,
-            2,
-            7,
-            Word::Lemma,
+            (2, 7),
+            "lemma",
+            (2, 7),
             Refusal::Name(text(&rt, "a")?),
             "refused 2:7 lemma name a\n"
         )?

@@ -2,16 +2,18 @@ ghost use Rattle.std.specs.Prelude.{◌≡◌, ◌≢◌, ℕ, ◌+◌, ◌≤�
 ghost use Rattle.std.specs.List.{flat_map};
 ghost use Rattle.iv_term.specs.declared.want.Want.TheVariants.{Memory};
 ghost use Rattle.iv_io.specs.Counts.{Rose, RoseAbove};
-ghost use Rattle.iv_report.specs.Place.{line_of, column_of, IsAt};
-ghost use Rattle.isarvm.specs.Command.{IsNoLater, BeginsIn};
-ghost use Rattle.isarvm.specs.Report.{refusal_line, count_line};
+ghost use Rattle.iv_report.specs.Place.{IsAt};
+ghost use Rattle.isarvm.specs.declared.commands.Command.{Command};
+ghost use Rattle.isarvm.specs.Command.{IsNoLater, StandsIn, IsCommands};
+ghost use Rattle.isarvm.specs.Refusal.{place_of};
+ghost use Rattle.isarvm.specs.Report.{count_line};
 ghost use Rattle.iv_words.specs.Words.{task_of};
 ghost use Rattle.iv_words.specs.declared.words.Task.{Task};
 ghost use Rattle.isarvm.specs.Machine.{start, executed, next};
 ghost use Rattle.isarvm.specs.Sound.{IsSound, AllClosed, machine_of, seen};
 ghost use Rattle.iv_kernel.specs.declared.theorems.NamedThm.{NamedThm};
 ghost use Rattle.isarvm.specs.Answer.{answer_of, stopped_by, IsRun, IsAnswered, IsUnread};
-ghost use Rattle.isarvm.specs.Run.{AllDerivable, line_of_finished, lines_of, report_from, state_behind, all_accepted, is_accepted, is_ended, refusals_in, counts_behind, reported, report_of, theorems_of, is_done, IsFrontOf};
+ghost use Rattle.isarvm.specs.Run.{AllDerivable, line_of_finished, refused_line, lines_of, report_from, state_behind, all_accepted, is_accepted, is_ended, refusals_in, counts_behind, reported, report_of, theorems_of, is_done, IsFrontOf};
 
 use crate::commands::{Command, commands};
 use crate::letters::rest_from;
@@ -80,7 +82,7 @@ pub fn theorem_bytes(alloc: Global, named: &[NamedThm]) -> Mem<Vec<u8>>
     Ok(bytes)
 }
 
-/// The line of a refused command, as bytes. Fails where memory runs out.
+/// The line of a command that is refused, as bytes. Fails where memory runs out.
 pub fn refusal_bytes(
     alloc: Global,
     document: &[u8],
@@ -89,17 +91,19 @@ pub fn refusal_bytes(
     cursor: &mut Cursor,
 ) -> Mem<Vec<u8>>
     requires small { length document.now ≤ LIMIT }
-    requires inside { BeginsIn document.now command.now }
     requires forward { cursor.old.at.0 ≤ command.now.at.0 }
+    requires own_forward { command.now.at.0 ≤ (place_of command.now.at refusal.now).0 }
+    requires own_inside { (place_of command.now.at refusal.now).0 ≤ length document.now }
     requires place { IsAt document.now cursor.old }
-    ensures ok { IfOk result (λ v. v.items ≡ encode_utf8_all
-        (refusal_line (line_of document.now command.now.at.0) (column_of document.now command.now.at.0) command.now.word refusal.now)) }
+    ensures ok { IfOk result (λ v. v.items ≡ encode_utf8_all (refused_line document.now command.now refusal.now)) }
     ensures at { cursor.new.at.0 ≡ command.now.at.0 }
     ensures place { IsAt document.now cursor.new }
     ensures memory { IfErr result (λ w. w ≡ Memory) }
 {
-    let (line, column) = cursor.advance(document, command.at);
-    let text = refusal_line(alloc, line, column, command.word, refusal)?;
+    let at = cursor.advance(document, command.at);
+    let mut ahead = *cursor;
+    let own = ahead.advance(document, refusal.place_or(command.at));
+    let text = refusal_line(alloc, at, &command.word, own, refusal)?;
     encoded(alloc, &text)
 }
 
@@ -113,7 +117,7 @@ pub fn step(
     cursor: &mut Cursor,
 ) -> Mem<Reported>
     requires small { length document.now ≤ LIMIT }
-    requires inside { BeginsIn document.now command.now }
+    requires inside { StandsIn document.now command.now }
     requires forward { cursor.old.at.0 ≤ command.now.at.0 }
     requires place { IsAt document.now cursor.old }
     requires sound { IsSound vm.old }
@@ -176,7 +180,7 @@ pub fn execute<K: Sink>(
 ) -> Result<bool, Stop>
     requires small { length document.now ≤ LIMIT }
     requires ordered { AllPairs IsNoLater commands.now }
-    requires inside { All (BeginsIn document.now) commands.now }
+    requires inside { All (StandsIn document.now) commands.now }
     requires sound { IsSound vm.old }
     ensures accepted { IfOk result (λ b. b ≡ all_accepted (machine_of vm.old) commands.now) }
     ensures state { OnOk result (machine_of vm.new ≡ state_behind (machine_of vm.old) commands.now) }
@@ -289,7 +293,7 @@ fn perform<K: Sink>(
 ) -> Result<bool, Stop>
     requires small { length document.now ≤ LIMIT }
     requires ordered { AllPairs IsNoLater commands.now }
-    requires inside { All (BeginsIn document.now) commands.now }
+    requires inside { All (StandsIn document.now) commands.now }
     requires sound { IsSound vm.old }
     ensures accepted { IfOk result (λ b. b ≡ all_accepted (machine_of vm.old) commands.now) }
     ensures state { OnOk result (machine_of vm.new ≡ state_behind (machine_of vm.old) commands.now) }
@@ -326,6 +330,41 @@ fn status_of(run: Result<bool, Stop>, ended: bool) -> Status
     }
 }
 
+/// Executes the commands of a document, writes what the task reports of them, and puts their theorems at the end of
+/// `proved`.
+fn run_commands<K: Sink>(
+    alloc: Global,
+    task: Task,
+    document: &[u8],
+    commands: &[Command],
+    sink: &mut K,
+    proved: &mut Theorems,
+) -> Status
+    requires small { length document.now ≤ LIMIT }
+    requires ordered { AllPairs IsNoLater commands.now }
+    requires inside { All (StandsIn document.now) commands.now }
+    ensures answers { IsRun result }
+    ensures done { IsAnswered result → result ≡ answer_of (is_done commands.now) }
+    ensures written { IsAnswered result → (w : List ℕ) → K.written sink.old ≡ Some w →
+        K.written sink.new ≡ Some (w ++ report_of task document.now commands.now) }
+    ensures front { (w : List ℕ) → K.written sink.old ≡ Some w → (front : List ℕ) × ((K.written sink.new ≡ Some (w ++ front))
+        × IsFrontOf front (report_of task document.now commands.now)) }
+    ensures theorems { IsAnswered result →
+        (ts : List NamedThm) × ((proved.new ≡ proved.old ++ ts) × (map seen ts ≡ theorems_of commands.now)) }
+    ensures some { (ts : List NamedThm) × ((proved.new ≡ proved.old ++ ts)
+        × (AllClosed ts × IsFrontOf (map seen ts) (theorems_of commands.now))) }
+    ensures fault { result ≡ Status.WriteFault → Rose (K.faults sink.old) (K.faults sink.new) }
+    ensures faults_grow { K.faults sink.old ≤ K.faults sink.new }
+{
+    let mut vm = Vm::new(alloc);
+    let run = perform(alloc, task, document, commands, &mut vm, sink);
+    let status = status_of(run, vm.is_ended());
+    match proved.append(vm.into_theorems()) {
+        Ok(()) => status,
+        Err(_want) => status.without_memory(),
+    }
+}
+
 /// Executes a document, writes what the task reports of it, and puts its theorems at the end of `proved`.
 pub fn check<K: Sink>(
     alloc: Global,
@@ -336,28 +375,22 @@ pub fn check<K: Sink>(
 ) -> Status
     requires { length document.now ≤ LIMIT }
     ensures answers { IsRun result }
-    ensures done { IsAnswered result → result ≡ answer_of (is_done document.now) }
-    ensures written { IsAnswered result → (w : List ℕ) → K.written sink.old ≡ Some w →
-        K.written sink.new ≡ Some (w ++ report_of task document.now) }
-    ensures front { (w : List ℕ) → K.written sink.old ≡ Some w →
-        (front : List ℕ) × ((K.written sink.new ≡ Some (w ++ front)) × IsFrontOf front (report_of task document.now)) }
-    ensures theorems { IsAnswered result →
-        (ts : List NamedThm) × ((proved.new ≡ proved.old ++ ts) × (map seen ts ≡ theorems_of document.now)) }
-    ensures some { (ts : List NamedThm) × ((proved.new ≡ proved.old ++ ts)
-        × (AllClosed ts × IsFrontOf (map seen ts) (theorems_of document.now))) }
+    ensures commands { IsAnswered result → (cs : List Command) × IsCommands document.now cs }
+    ensures done { IsAnswered result → (cs : List Command) → IsCommands document.now cs → result ≡ answer_of (is_done cs) }
+    ensures written { IsAnswered result → (cs : List Command) → IsCommands document.now cs → (w : List ℕ) →
+        K.written sink.old ≡ Some w → K.written sink.new ≡ Some (w ++ report_of task document.now cs) }
+    ensures front { (cs : List Command) → IsCommands document.now cs → (w : List ℕ) → K.written sink.old ≡ Some w →
+        (front : List ℕ) × ((K.written sink.new ≡ Some (w ++ front)) × IsFrontOf front (report_of task document.now cs)) }
+    ensures theorems { IsAnswered result → (cs : List Command) → IsCommands document.now cs →
+        (ts : List NamedThm) × ((proved.new ≡ proved.old ++ ts) × (map seen ts ≡ theorems_of cs)) }
+    ensures closed { (ts : List NamedThm) × ((proved.new ≡ proved.old ++ ts) × (AllClosed ts
+        × ((cs : List Command) → IsCommands document.now cs → IsFrontOf (map seen ts) (theorems_of cs)))) }
     ensures fault { result ≡ Status.WriteFault → Rose (K.faults sink.old) (K.faults sink.new) }
     ensures faults_grow { K.faults sink.old ≤ K.faults sink.new }
 {
-    let commands = match commands(alloc, document) {
-        Ok(commands) => commands,
-        Err(_want) => return Status::Memory,
-    };
-    let mut vm = Vm::new(alloc);
-    let run = perform(alloc, task, document, commands.as_slice(), &mut vm, sink);
-    let status = status_of(run, vm.is_ended());
-    match proved.append(vm.into_theorems()) {
-        Ok(()) => status,
-        Err(_want) => status.without_memory(),
+    match commands(alloc, document) {
+        Ok(commands) => run_commands(alloc, task, document, commands.as_slice(), sink, proved),
+        Err(_want) => Status::Memory,
     }
 }
 
@@ -379,15 +412,18 @@ fn run_task<S: Source, K: Sink>(
     ensures read_fault { result ≡ Status.ReadFault → Rose (S.faults source.old) (S.faults source.new) }
     ensures write_fault { result ≡ Status.WriteFault → Rose (K.faults sink.old) (K.faults sink.new) }
     ensures never_number { result ≢ Status.Number }
-    ensures done { IsAnswered result → (b : List ℕ) → S.left source.old ≡ Some b → result ≡ answer_of (is_done b) }
-    ensures report { IsAnswered result → (b w : List ℕ) → S.left source.old ≡ Some b → K.written sink.old ≡ Some w →
-        K.written sink.new ≡ Some (w ++ report_of task b) }
-    ensures front { (b w : List ℕ) → S.left source.old ≡ Some b → K.written sink.old ≡ Some w →
-        (front : List ℕ) × ((K.written sink.new ≡ Some (w ++ front)) × IsFrontOf front (report_of task b)) }
-    ensures theorems { IsAnswered result → (b : List ℕ) → S.left source.old ≡ Some b →
-        (ts : List NamedThm) × ((proved.new ≡ proved.old ++ ts) × (map seen ts ≡ theorems_of b)) }
-    ensures closed { (ts : List NamedThm) × ((proved.new ≡ proved.old ++ ts) × (AllClosed ts
-        × ((b : List ℕ) → S.left source.old ≡ Some b → IsFrontOf (map seen ts) (theorems_of b)))) }
+    ensures commands { IsAnswered result → (b : List ℕ) → S.left source.old ≡ Some b → (cs : List Command) × IsCommands b cs }
+    ensures done { IsAnswered result → (b : List ℕ) → S.left source.old ≡ Some b → (cs : List Command) → IsCommands b cs →
+        result ≡ answer_of (is_done cs) }
+    ensures report { IsAnswered result → (b : List ℕ) → S.left source.old ≡ Some b → (cs : List Command) → IsCommands b cs →
+        (w : List ℕ) → K.written sink.old ≡ Some w → K.written sink.new ≡ Some (w ++ report_of task b cs) }
+    ensures front { (b : List ℕ) → S.left source.old ≡ Some b → (cs : List Command) → IsCommands b cs →
+        (w : List ℕ) → K.written sink.old ≡ Some w →
+        (front : List ℕ) × ((K.written sink.new ≡ Some (w ++ front)) × IsFrontOf front (report_of task b cs)) }
+    ensures theorems { IsAnswered result → (b : List ℕ) → S.left source.old ≡ Some b → (cs : List Command) → IsCommands b cs →
+        (ts : List NamedThm) × ((proved.new ≡ proved.old ++ ts) × (map seen ts ≡ theorems_of cs)) }
+    ensures closed { (ts : List NamedThm) × ((proved.new ≡ proved.old ++ ts) × (AllClosed ts × ((b : List ℕ) →
+        S.left source.old ≡ Some b → (cs : List Command) → IsCommands b cs → IsFrontOf (map seen ts) (theorems_of cs)))) }
 {
     let document = match read_all(alloc, source, LIMIT) {
         Ok(document) => document,
@@ -434,21 +470,26 @@ pub fn run_isar<S: Source, K: Sink>(
     ensures read_fault { result ≡ Status.ReadFault → Rose (S.faults source.old) (S.faults source.new) }
     ensures write_fault { result ≡ Status.WriteFault → Rose (K.faults sink.old) (K.faults sink.new) }
     ensures never_number { result ≢ Status.Number }
-    ensures done { IsAnswered result → (b : List ℕ) → S.left source.old ≡ Some b → result ≡ answer_of (is_done b) }
+    // the commands of the document, of which what follows speaks
+    ensures commands { IsAnswered result → (b : List ℕ) → S.left source.old ≡ Some b → (cs : List Command) × IsCommands b cs }
+    ensures done { IsAnswered result → (b : List ℕ) → S.left source.old ≡ Some b → (cs : List Command) → IsCommands b cs →
+        result ≡ answer_of (is_done cs) }
     // the report, whole after `Done` and `Refused`, and else a front part of it
-    ensures report { IsAnswered result → (task : Task) → task_of (map string_bytes words.now) ≡ Some task → (b w : List ℕ) →
-        S.left source.old ≡ Some b → K.written sink.old ≡ Some w → K.written sink.new ≡ Some (w ++ report_of task b) }
-    ensures front { (task : Task) → task_of (map string_bytes words.now) ≡ Some task → (b w : List ℕ) →
-        S.left source.old ≡ Some b → K.written sink.old ≡ Some w →
-        (front : List ℕ) × ((K.written sink.new ≡ Some (w ++ front)) × IsFrontOf front (report_of task b)) }
+    ensures report { IsAnswered result → (task : Task) → task_of (map string_bytes words.now) ≡ Some task →
+        (b : List ℕ) → S.left source.old ≡ Some b → (cs : List Command) → IsCommands b cs →
+        (w : List ℕ) → K.written sink.old ≡ Some w → K.written sink.new ≡ Some (w ++ report_of task b cs) }
+    ensures front { (task : Task) → task_of (map string_bytes words.now) ≡ Some task →
+        (b : List ℕ) → S.left source.old ≡ Some b → (cs : List Command) → IsCommands b cs →
+        (w : List ℕ) → K.written sink.old ≡ Some w →
+        (front : List ℕ) × ((K.written sink.new ≡ Some (w ++ front)) × IsFrontOf front (report_of task b cs)) }
     // the theorems, all after `Done` and `Refused`, and else the first of them; each keeps a derivation that
     // concludes it without hypotheses and rests on no axiom, whatever the source and the sink tell
-    ensures theorems { IsAnswered result → (b : List ℕ) → S.left source.old ≡ Some b →
-        (ts : List NamedThm) × ((proved.new ≡ proved.old ++ ts) × (map seen ts ≡ theorems_of b)) }
-    ensures closed { (ts : List NamedThm) × ((proved.new ≡ proved.old ++ ts) × (AllClosed ts
-        × ((b : List ℕ) → S.left source.old ≡ Some b → IsFrontOf (map seen ts) (theorems_of b)))) }
-    // each theorem that any document reports is derivable
-    ensures derivable { (b : List ℕ) → AllDerivable (theorems_of b) }
+    ensures theorems { IsAnswered result → (b : List ℕ) → S.left source.old ≡ Some b → (cs : List Command) → IsCommands b cs →
+        (ts : List NamedThm) × ((proved.new ≡ proved.old ++ ts) × (map seen ts ≡ theorems_of cs)) }
+    ensures closed { (ts : List NamedThm) × ((proved.new ≡ proved.old ++ ts) × (AllClosed ts × ((b : List ℕ) →
+        S.left source.old ≡ Some b → (cs : List Command) → IsCommands b cs → IsFrontOf (map seen ts) (theorems_of cs)))) }
+    // each theorem that any commands prove is derivable
+    ensures derivable { (cs : List Command) → AllDerivable (theorems_of cs) }
 {
     match task_given(alloc, words) {
         Ok(task) => run_task(alloc, task, source, sink, proved),

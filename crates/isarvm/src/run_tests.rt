@@ -55,7 +55,8 @@ type Row<'a> = (&'a str, &'a str, &'a str, Status, usize);
 fn documents(rt: HostRuntime) -> Result<(), Fail> {
     let recovered =
         "lemma a: \"PROP A ==> PROP B\" by assumption\noops\nlemma b: \"PROP A ==> PROP A\" by assumption\nend\n";
-    let rows: [Row<'_>; 10] = [
+    let unclosed = "refused 1:1 lemma syntax 1:10\n";
+    let rows: [Row<'_>; 17] = [
         (
             "check",
             "lemma a: \"PROP A ==> PROP A\" by assumption end\n",
@@ -105,6 +106,37 @@ fn documents(rt: HostRuntime) -> Result<(), Fail> {
             "refused 1:10 ? syntax 1:10\ntheorem \u{540d}: PROP ?A ==> PROP ?A\n",
             Status::Refused,
             1,
+        ),
+        ("check", "lemma a: \"PROP A", unclosed, Status::Refused, 0),
+        ("check", "lemma a: (* x", unclosed, Status::Refused, 0),
+        ("check", "lemma a: \\<open>A", unclosed, Status::Refused, 0),
+        (
+            "check",
+            "lemma a:",
+            "refused 1:1 lemma syntax 1:9\n",
+            Status::Refused,
+            0,
+        ),
+        (
+            "check",
+            "theory T imports Pure begin lemma a: \"PROP A ==> PROP A\" text \\<open>x\\<close> by assumption end",
+            "theorem a: PROP ?A ==> PROP ?A\n",
+            Status::Done,
+            1,
+        ),
+        (
+            "check",
+            "theory T imports Pure Main begin",
+            "refused 1:1 theory name Main\n",
+            Status::Refused,
+            0,
+        ),
+        (
+            "check",
+            "theorem a: \"PROP A ==> PROP A\"",
+            "refused 1:1 theorem syntax 1:1\n",
+            Status::Refused,
+            0,
         ),
         ("run", THREE, "", Status::Usage, 0),
         ("", THREE, "", Status::Usage, 0),

@@ -12,6 +12,14 @@ fn push_text(out: &mut String, text: &Text) -> Result<(), Fail> {
 
 fn push_form(out: &mut String, form: &Form) -> Result<(), Fail> {
     match form {
+        Form::Header(imports) => {
+            out.push_str("theory")?;
+            for import in imports.as_slice() {
+                out.push(' ')?;
+                push_text(out, import)?;
+            }
+        }
+        Form::Prose => out.push_str("prose")?,
         Form::Lemma(name, parts) => {
             push_text(out, name)?;
             let (premises, conclusion) = parts.split();
@@ -25,7 +33,10 @@ fn push_form(out: &mut String, form: &Form) -> Result<(), Fail> {
         Form::ByAssumption => out.push_str("assumption")?,
         Form::Oops => out.push_str("oops")?,
         Form::End => out.push_str("end")?,
-        Form::Unreadable => out.push('?')?,
+        Form::Unreadable(at) => {
+            let at = at.0;
+            write!(out, "?{at}")?;
+        }
     }
     Ok(())
 }
@@ -36,8 +47,9 @@ fn listed_commands(rt: &HostRuntime, document: &[u8]) -> Result<String, Fail> {
     if document.len() <= LIMIT {
         for command in &commands(rt.alloc(), document)? {
             let at = command.at.0;
-            let word = command.word;
-            write!(&mut out, "{at} {word:?} ")?;
+            write!(&mut out, "{at} ")?;
+            push_text(&mut out, &command.word)?;
+            out.push(' ')?;
             push_form(&mut out, &command.form)?;
             out.push(';')?;
         }
@@ -50,23 +62,32 @@ fn documents_as_commands(rt: HostRuntime) -> Result<(), Fail> {
     let rows = [
         (
             "lemma a: \"PROP A ==> PROP A\" by assumption end",
-            "0 Lemma a A A;29 By assumption;43 End end;",
+            "0 lemma a A A;29 by assumption;43 end end;",
         ),
-        ("lemma a:\"PROP A==>PROP B\noops", "0 Lemma ?;"),
+        ("lemma a:\"PROP A==>PROP B\noops", "0 lemma ?8;"),
         (
             "lemma a:\"PROP A==>PROP B\"\noops",
-            "0 Lemma a A B;26 Oops oops;",
+            "0 lemma a A B;26 oops oops;",
         ),
-        ("lemma lemma", "0 Lemma ?;6 Lemma ?;"),
-        ("\u{ff} x end", "0 Unknown ?;5 End end;"),
-        ("lemma a: \"\"", "0 Lemma ?;"),
-        ("lemma a: \"PROP\"", "0 Lemma ?;"),
-        ("lemma a: \"PROP PROP\"", "0 Lemma ?;"),
-        ("lemma a: \"PROP A PROP B\"", "0 Lemma ?;"),
+        ("lemma lemma", "0 lemma ?5;6 lemma ?11;"),
+        ("\u{ff} x end", "0 ? ?0;5 end end;"),
+        ("lemma a: \"\"", "0 lemma ?9;"),
+        ("lemma a: \"PROP\"", "0 lemma ?9;"),
+        ("lemma a: \"PROP PROP\"", "0 lemma ?9;"),
+        ("lemma a: \"PROP A PROP B\"", "0 lemma ?9;"),
         (
             "by assume oops oops x ending",
-            "0 By ?;10 Oops oops;15 Oops ?;",
+            "0 by ?2;3 assume ?9;10 oops oops;15 oops ?20;",
         ),
+        (
+            "theory T imports Pure Main begin text \"x\"",
+            "0 theory theory Pure Main;33 text prose;",
+        ),
+        ("lemma a [simp]: \"PROP A\"", "0 lemma ?8;"),
+        ("lemma a: \"PROP A\" (is \"x\")", "0 lemma ?18;"),
+        ("lemma \"PROP A\" by rule", "0 lemma ?6;15 by ?18;"),
+        ("by assumption assumption", "0 by ?14;"),
+        ("theorem a: \"PROP A\" qed", "0 theorem ?0;20 qed ?20;"),
     ];
     for (document, expected) in rows {
         let listed = listed_commands(&rt, document.as_bytes())?;

@@ -1,11 +1,10 @@
 use Rattle.std.proofs.Common.{arith}
-use Rattle.isarvm.proofs.CommandSteps.{in_order, begin_inside, all_read}
+use Rattle.isarvm.proofs.CommandSteps.{each_more, each_all}
 use Rattle.isarvm.proofs.commands.commands_in.Goals as goal
 
-pub returns-clause-ordered : goal.returns-clause-ordered
-returns-clause-ordered c =
-    rw (all_read _ c.args.pieces.now _ _ c.loop-piece.invariant (omega arith)) (in_order _ _ _ _ c.requires.in_order c.requires.runs c.requires.ordered)
+pub loop-piece-preserved : goal.loop-piece-preserved
+loop-piece-preserved c =
+    each_more _ _ c.args.pieces.now c.loop-piece.piece-index _ _ _ _ (omega arith) c.run_of.ensures c.in_ok-push.ensures.items c.loop-piece.invariant c.in_ok-read.ensures.read
 
-pub returns-clause-inside : goal.returns-clause-inside
-returns-clause-inside c =
-    rw (all_read _ c.args.pieces.now _ _ c.loop-piece.invariant (omega arith)) (begin_inside _ _ _ c.requires.in_order c.requires.runs)
+pub returns-clause-read : goal.returns-clause-read
+returns-clause-read c = each_all _ c.args.pieces.now _ _ (omega arith) c.loop-piece.invariant

@@ -1,7 +1,6 @@
-use Rattle.std.proofs.Common.{◌≡◌, map, take}
-use Rattle.isarvm.specs.Piece.{run_of}
-use Rattle.isarvm.specs.Command.{command_of}
+use Rattle.std.proofs.Common.{map, take}
+use Rattle.isarvm.specs.Command.{run_of, AreEach, IsRead}
 use Rattle.isarvm.proofs.commands.commands_in.Given as goal
 
 abbrev pub invariant-loop-piece : goal.invariant-loop-piece
-invariant-loop-piece l = l.found.items ≡ map command_of (map (run_of l.tokens) (take l.piece-index l.pieces))
+invariant-loop-piece l = AreEach IsRead (map (run_of l.tokens) (take l.piece-index l.pieces)) l.found.items
