@@ -1,1 +1,4 @@
+pub mod Conditions
+pub mod Fixity
+pub mod Signature
 pub mod Table

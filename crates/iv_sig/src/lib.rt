@@ -2,7 +2,12 @@
 #![tactic(auto)]
 
 pub mod copied;
+pub mod fixity;
+pub mod notations;
+mod symbols;
 pub mod table;
 
 pub use copied::Copied;
+pub use fixity::Fixity;
+pub use notations::Notations;
 pub use table::Table;
