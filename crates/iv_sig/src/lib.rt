@@ -1,6 +1,7 @@
 //! Declarations: types, constants, notations, the judgment and axioms.
 #![tactic(auto)]
 
+pub mod conditions;
 pub mod copied;
 pub mod fixity;
 pub mod notations;
