@@ -1,3 +1,4 @@
 pub mod Any
 pub mod Closed
+pub mod Declaring
 pub mod Entries

@@ -37,6 +37,20 @@ impl Fixity {
         }
     }
 
+    /// Its symbol, by value.
+    pub fn into_symbol(self) -> Text
+        ensures { result ≡ symbol_of self }
+    {
+        match self {
+            Fixity::Plain(symbol) => symbol,
+            Fixity::Prefix(symbol, _place, _own) => symbol,
+            Fixity::Infix(symbol, _own) => symbol,
+            Fixity::Infixl(symbol, _own) => symbol,
+            Fixity::Infixr(symbol, _own) => symbol,
+            Fixity::Binder(symbol, _own) => symbol,
+        }
+    }
+
     /// Whether its priorities are at most 1000, and that of an infix at most 999.
     pub(crate) fn are_priorities(&self) -> bool
         ensures { result ≡ are_priorities self.now }

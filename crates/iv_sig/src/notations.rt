@@ -15,10 +15,18 @@ use std::alloc::Global;
 use std::marker::Model;
 
 /// Constants, each with how it is written, in order of declaration. Contracts see the list of its entries.
-#[derive(Drop)]
 pub struct Notations {
     by_constant: Table<Fixity>,
     by_symbol: Table<(Text, Fixity)>,
+}
+
+impl Drop for Notations {
+    fn drop(self) {
+        let Notations {
+            by_constant: _by_constant,
+            by_symbol: _by_symbol,
+        } = self;
+    }
 }
 
 impl Model for Notations {

@@ -14,9 +14,15 @@ use std::alloc::Global;
 use std::marker::Model;
 
 /// Values by name, in order of declaration. Contracts see the list of its entries; no two have one name.
-#[derive(Drop)]
 pub struct Table<V> {
     by_name: IndexMap<Vec<char>, (Text, V)>,
+}
+
+// By hand, so that a caller's proof has one call where a map ends.
+impl<V: Drop> Drop for Table<V> {
+    fn drop(self) {
+        let Table { by_name: _by_name } = self;
+    }
 }
 
 impl<V> Model for Table<V> {
