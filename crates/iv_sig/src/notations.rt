@@ -1,7 +1,10 @@
 //! Notations of constants, found by the constant and by the symbol.
 ghost use Rattle.std.specs.Prelude.{◌≡◌, ◌<◌, [], ◌∷◌, ◌++◌, None, Some, length, slice_get, IfOk, IfErr, OnOk, OnErr};
+ghost use Rattle.std.specs.List.{IsDistinct};
+ghost use Rattle.std.specs.Map.{keys_of};
 ghost use Rattle.std.specs.Map.Iter.{deref_pair};
 ghost use Rattle.std.specs.Option.{option_copied, option_map};
+ghost use Rattle.std.specs.Str.{bytes_eq};
 ghost use Rattle.iv_term.specs.declared.want.Want.TheVariants.{Memory};
 ghost use Rattle.iv_sig.specs.Fixity.{symbol_of};
 ghost use Rattle.iv_sig.specs.Signature.{by_symbol};
@@ -68,6 +71,15 @@ impl Notations {
         ensures { result ≡ length self.now }
     {
         self.by_constant.len()
+    }
+
+    /// A law: no two are of one constant, and no two have one symbol.
+    pub fn names_differ(&self)
+        ensures constants { IsDistinct bytes_eq (keys_of self.now) }
+        ensures symbols { IsDistinct bytes_eq (keys_of (by_symbol self.now)) }
+    {
+        self.by_constant.names_differ();
+        self.by_symbol.names_differ();
     }
 
     /// One of them, counted from 0 in order of declaration.

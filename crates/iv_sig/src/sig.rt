@@ -1,8 +1,10 @@
 //! What is declared, and its look-ups.
-ghost use Rattle.std.specs.Prelude.{◌≡◌, ◌<◌, [], ◌∷◌, ◌++◌, None, Some, length, is_some, slice_get, IfOk, IfErr, OnOk, OnErr};
+ghost use Rattle.std.specs.Prelude.{◌≡◌, ◌<◌, [], ◌∷◌, ◌++◌, None, Some, length, is_some, slice_get, All, IfSome, IfOk, IfErr, OnOk, OnErr};
 ghost use Rattle.std.specs.Map.Iter.{deref_pair};
 ghost use Rattle.std.specs.Option.{option_copied, option_map};
 ghost use Rattle.iv_term.specs.declared.want.Want.TheVariants.{Memory};
+ghost use Rattle.iv_sig.specs.Conditions.{IsAxiom};
+ghost use Rattle.iv_sig.specs.Kept.{IsJudgment, IsSignature, NamesDiffer};
 ghost use Rattle.iv_sig.specs.Signature.{pure, by_symbol, is_there};
 ghost use Rattle.iv_sig.specs.Table.{look};
 
@@ -50,7 +52,11 @@ impl Model for Sig {
 
     ghost coded = { Prim.hlevel (codes, a_term.the_row.coded, a_typ.the_row.coded, a_fixity.the_row.coded) };
 
+    ghost use Rattle.iv_sig.specs.Kept.{IsSignature};
+
     ghost view = { λ s. record { types = s.types; consts = s.consts; notations = s.notations; judgment = s.judgment; axioms = s.axioms } };
+
+    ghost invariant = { λ s. IsSignature (record { types = s.types; consts = s.consts; notations = s.notations; judgment = s.judgment; axioms = s.axioms }) };
 }
 
 /// An equal name, where there is one.
@@ -186,17 +192,30 @@ impl Sig {
         self.notations.written_by(symbol)
     }
 
-    /// The constant that is the judgment; `None` exactly where none is declared.
+    /// The constant that is the judgment; `None` exactly where none is declared. Its type is `T => prop`.
     pub fn judgment(&self) -> Option<&Text>
-        ensures { option_copied result ≡ self.now.judgment }
+        ensures same { option_copied result ≡ self.now.judgment }
+        ensures typed { IfSome self.now.judgment (IsJudgment self.now.consts) }
     {
         self.judgment.as_ref()
     }
 
-    /// The axioms.
+    /// The axioms. Each is of type `prop`, with no loose index and no free variable.
     pub fn axioms(&self) -> &Axioms
-        ensures { result.now ≡ self.now.axioms }
+        ensures same { result.now ≡ self.now.axioms }
+        ensures closed { All (λ e. IsAxiom e.1) self.now.axioms }
     {
         &self.axioms
+    }
+
+    /// A law: what holds of every signature, since declarations alone make it.
+    pub fn is_kept(&self)
+        ensures kept { IsSignature self.now }
+        ensures names_differ { NamesDiffer self.now }
+    {
+        self.types.names_differ();
+        self.consts.names_differ();
+        self.notations.names_differ();
+        self.axioms.names_differ();
     }
 }

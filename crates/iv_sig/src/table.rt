@@ -52,10 +52,16 @@ impl<V: Drop> Table<V> {
 
     /// How many entries there are.
     pub fn len(&self) -> usize
-        ensures count { result ≡ length self.now }
-        ensures names_differ { IsDistinct bytes_eq (keys_of self.now) }
+        ensures { result ≡ length self.now }
     {
         self.by_name.len()
+    }
+
+    /// A law: no two entries have one name.
+    pub fn names_differ(&self)
+        ensures { IsDistinct bytes_eq (keys_of self.now) }
+    {
+        let _count = self.by_name.len();
     }
 
     /// An entry, counted from 0 in order of declaration.
@@ -113,6 +119,7 @@ impl<V: Copied> Table<V> {
         ensures ok { IfOk result (λ t. t ≡ self.now) }
         ensures memory { IfErr result (λ w. w ≡ Memory) }
     {
+        self.names_differ();
         let mut copy = Table::new(alloc);
         for i in 0..self.len() {
             let (name, value) = self.at(i);

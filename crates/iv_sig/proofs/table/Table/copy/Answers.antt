@@ -4,7 +4,7 @@ use Rattle.iv_sig.proofs.table.Table.copy.Goals as goal
 
 pub push-requires : goal.push-requires
 push-requires g c =
-    copied-name c.loop-i.copy c.args.self.now c.loop-i.i _ _ c.at.ensures c.loop-i.invariant c.in_ok-copy.ensures.ok c.len-i-end.ensures.names_differ
+    copied-name c.loop-i.copy c.args.self.now c.loop-i.i _ _ c.at.ensures c.loop-i.invariant c.in_ok-copy.ensures.ok c.names_differ.ensures
 
 pub loop-i-preserved : goal.loop-i-preserved
 loop-i-preserved g c =
