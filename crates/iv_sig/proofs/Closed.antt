@@ -1,7 +1,7 @@
 -- What the tests of types and of terms say.
-use Rattle.std.proofs.Common.{◌≡◌, ℕ, ◌<◌, Bool, true, false, IsTrue, ◌↔◌, sym, ap, ◌∙◌, codes, arith}
+use Rattle.std.proofs.Common.{◌≡◌, ℕ, ◌<◌, Bool, true, false, IsTrue, ◌↔◌, sym, ap, ◌∙◌, arith}
 use Rattle.iv_term.specs.declared.typ.Typ.{Typ}
-use Rattle.iv_term.specs.declared.typ.Typ.TheBlock.{Con, Nil}
+use Rattle.iv_term.specs.declared.typ.Typ.TheBlock.{Nil}
 use Rattle.iv_term.specs.declared.term.Head.{Head}
 use Rattle.iv_term.specs.declared.term.Term.{Term}
 use Rattle.iv_term.specs.declared.term.Terms.{Terms}
@@ -10,7 +10,7 @@ use Rattle.iv_term.specs.Typ.{prop, fun}
 use Rattle.iv_term.specs.Term.{lam}
 use Rattle.iv_hsub.specs.Typing.{dom, cod, head_type, result_type, type_of, IsTerm}
 use Rattle.iv_hsub.specs.Index.{loose}
-use Rattle.iv_sig.specs.Conditions.{has_variable, IsJudgmentType, has_free, IsAxiom}
+use Rattle.iv_sig.specs.Conditions.{IsJudgmentType, IsAxiom}
 
 never : (P : Type 0) → (P → ⊥) → (IsTrue false ↔ P)
 never P n = (λ h. absurd (let bad : false ≡ true = h in cc), λ p. absurd (n p))

@@ -1,4 +1,8 @@
-//! Declarations: types, constants, notations, the judgment and axioms.
+//! The signature of a theory: its types, constants, notations, judgment and axioms.
+//!
+//! [`Sig`] grows by declarations alone. Each is refused exactly where its condition says, and a refused one leaves
+//! the signature as it was. Contracts see a record of lists in order of declaration; look-ups go by tables, and
+//! take no memory. What holds of every signature is in the contract of [`Sig::is_kept`].
 #![tactic(auto)]
 
 pub mod conditions;

@@ -208,7 +208,10 @@ impl Sig {
         &self.axioms
     }
 
-    /// A law: what holds of every signature, since declarations alone make it.
+    /// A law: what holds of every signature, since declarations alone make it. The Pure types and constants come
+    /// first; no name is that of a type and of a constant; each notation is of a constant that isn't of Pure, by a
+    /// symbol that is no delimiter; the judgment is a constant of type `T => prop`; each axiom is a proposition
+    /// without free variables. No two entries have one name, and no two notations one symbol.
     pub fn is_kept(&self)
         ensures kept { IsSignature self.now }
         ensures names_differ { NamesDiffer self.now }

@@ -1,4 +1,4 @@
-use Rattle.std.proofs.Common.{◌≡◌, get_or, ap, sym, ◌∙◌}
+use Rattle.std.proofs.Common.{ap, sym, ◌∙◌}
 use Rattle.iv_sig.specs.Fixity.{is_barred}
 use Rattle.iv_sig.proofs.Any.{any-here, any-on, any-end}
 use Rattle.iv_sig.proofs.symbols.has_barred.Goals as goal
