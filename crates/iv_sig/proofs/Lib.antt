@@ -1,4 +1,5 @@
 pub mod Any
+pub mod BothWays
 pub mod Closed
 pub mod Declaring
 pub mod Entries

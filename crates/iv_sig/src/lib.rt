@@ -10,6 +10,7 @@ pub mod copied;
 mod declare;
 pub mod error;
 pub mod fixity;
+pub mod laws;
 pub mod notations;
 mod pure;
 pub mod sig;
