@@ -1,0 +1,5 @@
+pub mod Conditions
+pub mod Fixity
+pub mod Kept
+pub mod Signature
+pub mod Table

@@ -1,0 +1,28 @@
+//! The signature of a theory: its types, constants, notations, judgment and axioms.
+//!
+//! [`Sig`] grows by declarations alone. Each is refused exactly where its condition says, and a refused one leaves
+//! the signature as it was. Contracts see a record of lists in order of declaration; look-ups go by tables, and
+//! take no memory. What holds of every signature is in the contract of [`Sig::is_kept`].
+#![tactic(auto)]
+
+pub mod conditions;
+pub mod copied;
+mod declare;
+pub mod error;
+pub mod fixity;
+pub mod laws;
+pub mod notations;
+mod pure;
+pub mod sig;
+mod symbols;
+pub mod table;
+
+pub use copied::Copied;
+pub use error::SigError;
+pub use fixity::Fixity;
+pub use notations::Notations;
+pub use sig::{Axioms, Sig};
+pub use table::Table;
+
+#[cfg(test)]
+mod tests;

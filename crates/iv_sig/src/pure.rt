@@ -1,0 +1,77 @@
+//! What there is before anything is declared.
+ghost use Rattle.std.specs.Prelude.{◌≡◌, IfOk, IfErr};
+ghost use Rattle.iv_term.specs.declared.want.Want.TheVariants.{Memory};
+ghost use Rattle.iv_sig.specs.Signature.{open_a, pure_types, pure_consts, is_pure};
+ghost use Rattle.iv_hsub.specs.Hhf.{all_typ};
+ghost use Rattle.iv_term.specs.Typ.{prop, fun};
+
+use crate::table::Table;
+use iv_term::{Mem, Name, Text, Typ};
+use std::alloc::Global;
+
+/// The type variable `?'a`.
+fn open_a(alloc: Global) -> Mem<Typ>
+    ensures ok { IfOk result (λ a. a ≡ open_a) }
+    ensures memory { IfErr result (λ w. w ≡ Memory) }
+{
+    let text = Text::from_slice(alloc, &['\'', 'a'])?;
+    Ok(Typ::Schematic(Name { text, number: 0 }))
+}
+
+/// `(?'a => prop) => prop`
+fn all_typ(alloc: Global) -> Mem<Typ>
+    ensures ok { IfOk result (λ a. a ≡ all_typ open_a) }
+    ensures memory { IfErr result (λ w. w ≡ Memory) }
+{
+    let predicate = Typ::fun(alloc, open_a(alloc)?, Typ::prop(alloc)?)?;
+    Typ::fun(alloc, predicate, Typ::prop(alloc)?)
+}
+
+/// `?'a => ?'a => prop`
+fn eq_typ(alloc: Global) -> Mem<Typ>
+    ensures ok { IfOk result (λ a. a ≡ fun open_a (fun open_a prop)) }
+    ensures memory { IfErr result (λ w. w ≡ Memory) }
+{
+    let predicate = Typ::fun(alloc, open_a(alloc)?, Typ::prop(alloc)?)?;
+    Typ::fun(alloc, open_a(alloc)?, predicate)
+}
+
+/// The types `fun` and `prop`.
+pub(crate) fn pure_types(alloc: Global) -> Mem<Table<u32>>
+    ensures ok { IfOk result (λ t. t ≡ pure_types) }
+    ensures memory { IfErr result (λ w. w ≡ Memory) }
+{
+    let mut types = Table::new(alloc);
+    types.push(alloc, Text::from_slice(alloc, &['f', 'u', 'n'])?, 2)?;
+    types.push(alloc, Text::from_slice(alloc, &['p', 'r', 'o', 'p'])?, 0)?;
+    Ok(types)
+}
+
+/// The constants `==>`, `!!` and `==`.
+pub(crate) fn pure_consts(alloc: Global) -> Mem<Table<Typ>>
+    ensures ok { IfOk result (λ t. t ≡ pure_consts) }
+    ensures memory { IfErr result (λ w. w ≡ Memory) }
+{
+    let mut consts = Table::new(alloc);
+    consts.push(
+        alloc,
+        Text::from_slice(alloc, &['=', '=', '>'])?,
+        Typ::implies(alloc)?,
+    )?;
+    consts.push(
+        alloc,
+        Text::from_slice(alloc, &['!', '!'])?,
+        all_typ(alloc)?,
+    )?;
+    consts.push(alloc, Text::from_slice(alloc, &['=', '='])?, eq_typ(alloc)?)?;
+    Ok(consts)
+}
+
+/// Whether a name is that of a Pure constant.
+pub(crate) fn is_pure(name: &Text) -> bool
+    ensures { result ≡ is_pure name.now }
+{
+    name.as_slice() == ['=', '=', '>'].as_slice()
+        || name.as_slice() == ['!', '!'].as_slice()
+        || name.as_slice() == ['=', '='].as_slice()
+}
