@@ -3,222 +3,66 @@ use crate::reading::Reading;
 use iv_lex::tokens;
 use std::test::Fail;
 
-/// A piece that repeats a text, and the place where it is refused.
-struct Nested {
-    front: &'static str,
-    open: &'static str,
-    inner: &'static str,
-    close: &'static str,
-    back: &'static str,
-    count: u32,
-    place: Option<u32>,
-}
-
-const NESTED: &[Nested] = &[
+/// Pieces that repeat two texts around a third, so many times, and the places where they are refused: what stands in
+/// front, what is repeated before the middle, the middle, what is repeated behind it, what stands behind.
+const NESTED: &[(&[&str; 5], u32, Option<u32>)] = &[
     // parentheses, each a level
-    Nested {
-        front: "apply ",
-        open: "(",
-        inner: "m",
-        close: ")",
-        back: "",
-        count: 400,
-        place: None,
-    },
-    Nested {
-        front: "apply ",
-        open: "(",
-        inner: "m",
-        close: ")",
-        back: "",
-        count: 401,
-        place: Some(6),
-    },
+    (&["apply ", "(", "m", ")", ""], 400, None),
+    (&["apply ", "(", "m", ")", ""], 401, Some(6)),
     // separators, and the parentheses around them
-    Nested {
-        front: "apply (m",
-        open: ", m",
-        inner: "",
-        close: "",
-        back: ")",
-        count: 399,
-        place: None,
-    },
-    Nested {
-        front: "apply (m",
-        open: ", m",
-        inner: "",
-        close: "",
-        back: ")",
-        count: 400,
-        place: Some(6),
-    },
-    Nested {
-        front: "by - (m",
-        open: " | m",
-        inner: "",
-        close: "",
-        back: ")",
-        count: 400,
-        place: Some(5),
-    },
+    (&["apply (m", ", m", "", "", ")"], 399, None),
+    (&["apply (m", ", m", "", "", ")"], 400, Some(6)),
+    (&["by - (m", " | m", "", "", ")"], 400, Some(5)),
     // parentheses with suffixes
-    Nested {
-        front: "apply ",
-        open: "(",
-        inner: "m",
-        close: ")?",
-        back: "",
-        count: 200,
-        place: None,
-    },
-    Nested {
-        front: "apply ",
-        open: "(",
-        inner: "m",
-        close: ")?",
-        back: "",
-        count: 201,
-        place: Some(6),
-    },
+    (&["apply ", "(", "m", ")?", ""], 200, None),
+    (&["apply ", "(", "m", ")?", ""], 201, Some(6)),
     // attributes in attributes, of a fact, of a label, and of a fact inside of a method
-    Nested {
-        front: "from ",
-        open: "a[THEN ",
-        inner: "b",
-        close: "]",
-        back: "",
-        count: 400,
-        place: None,
-    },
-    Nested {
-        front: "from c and ",
-        open: "a[THEN ",
-        inner: "b",
-        close: "]",
-        back: "",
-        count: 401,
-        place: Some(11),
-    },
-    Nested {
-        front: "have ",
-        open: "a[THEN ",
-        inner: "b",
-        close: "]",
-        back: ": x",
-        count: 400,
-        place: None,
-    },
-    Nested {
-        front: "have ",
-        open: "a[THEN ",
-        inner: "b",
-        close: "]",
-        back: ": x",
-        count: 401,
-        place: Some(5),
-    },
-    Nested {
-        front: "apply (rule ",
-        open: "a[THEN ",
-        inner: "b",
-        close: "]",
-        back: ")",
-        count: 400,
-        place: None,
-    },
-    Nested {
-        front: "apply (rule ",
-        open: "a[THEN ",
-        inner: "b",
-        close: "]",
-        back: ")",
-        count: 401,
-        place: Some(12),
-    },
-    // cases in cartouches
-    Nested {
-        front: "apply (",
-        open: "match x in y => \\<open>",
-        inner: "-",
-        close: "\\<close>",
-        back: ")",
-        count: 399,
-        place: None,
-    },
-    Nested {
-        front: "apply (",
-        open: "match x in y => \\<open>",
-        inner: "-",
-        close: "\\<close>",
-        back: ")",
-        count: 400,
-        place: Some(6),
-    },
+    (&["from ", "a[THEN ", "b", "]", ""], 400, None),
+    (&["from c and ", "a[THEN ", "b", "]", ""], 401, Some(11)),
+    (&["have ", "a[THEN ", "b", "]", ": x"], 400, None),
+    (&["have ", "a[THEN ", "b", "]", ": x"], 401, Some(5)),
+    (&["apply (rule ", "a[THEN ", "b", "]", ")"], 400, None),
+    (&["apply (rule ", "a[THEN ", "b", "]", ")"], 401, Some(12)),
+    // a case in a cartouche, around parentheses
+    (
+        &[
+            "apply (match x in y => \\<open>",
+            "(",
+            "-",
+            ")",
+            "\\<close>)",
+        ],
+        398,
+        None,
+    ),
+    (
+        &[
+            "apply (match x in y => \\<open>",
+            "(",
+            "-",
+            ")",
+            "\\<close>)",
+        ],
+        399,
+        Some(6),
+    ),
     // any nesting is answered: closed, cut, and wrong at its end
-    Nested {
-        front: "apply ",
-        open: "(",
-        inner: "m",
-        close: ")",
-        back: "",
-        count: 200_000,
-        place: Some(6),
-    },
-    Nested {
-        front: "apply ",
-        open: "(",
-        inner: "m",
-        close: "",
-        back: "",
-        count: 200_000,
-        place: Some(200_007),
-    },
-    Nested {
-        front: "apply ",
-        open: "(",
-        inner: "m",
-        close: ")",
-        back: " ]",
-        count: 200_000,
-        place: Some(400_008),
-    },
-    Nested {
-        front: "from ",
-        open: "a[THEN ",
-        inner: "b",
-        close: "]",
-        back: "",
-        count: 100_000,
-        place: Some(5),
-    },
-    Nested {
-        front: "from ",
-        open: "a ",
-        inner: "b",
-        close: "",
-        back: "",
-        count: 100_000,
-        place: None,
-    },
+    (&["apply ", "(", "m", ")", ""], 200_000, Some(6)),
+    (&["apply ", "(", "m", "", ""], 200_000, Some(200_007)),
+    (&["apply ", "(", "m", ")", " ]"], 200_000, Some(400_008)),
+    (&["from ", "a[THEN ", "b", "]", ""], 100_000, Some(5)),
+    (&["from ", "a ", "b", "", ""], 100_000, None),
 ];
 
-/// Puts a text at the end so many times.
-fn push_times(out: &mut String, text: &str, count: u32) -> Result<(), Fail> {
-    for _time in 0..count {
-        out.push_str(text)?;
-    }
-    Ok(())
-}
-
-/// The piece.
-fn piece_of(rt: &HostRuntime, nested: &Nested) -> Result<String, Fail> {
+/// The texts of a row, each of the repeated ones so many times.
+fn piece_of(rt: &HostRuntime, texts: &[&str; 5], count: u32) -> Result<String, Fail> {
     let mut out = String::new(rt.alloc());
-    out.push_str(nested.front)?;
-    push_times(&mut out, nested.open, nested.count)?;
-    out.push_str(nested.inner)?;
-    push_times(&mut out, nested.close, nested.count)?;
-    out.push_str(nested.back)?;
+    for (index, text) in texts.iter().enumerate() {
+        let times = if index % 2 == 1 { count } else { 1 };
+        for _time in 0..times {
+            out.push_str(text)?;
+        }
+    }
     Ok(out)
 }
 
@@ -239,9 +83,9 @@ fn refused_at(rt: &HostRuntime, bytes: &[u8]) -> Result<Option<u32>, Fail> {
 
 #[test]
 fn levels(rt: HostRuntime) -> Result<(), Fail> {
-    for nested in NESTED {
-        let piece = piece_of(&rt, nested)?;
-        assert_eq!(rt; refused_at(&rt, piece.as_bytes())?, nested.place);
+    for (texts, count, place) in NESTED {
+        let piece = piece_of(&rt, texts, *count)?;
+        assert_eq!(rt; refused_at(&rt, piece.as_bytes())?, *place);
     }
     Ok(())
 }
