@@ -1,6 +1,5 @@
 -- The commands of a document: each is the one that its piece is read as, and they stand in order.
-use Rattle.std.proofs.Common.{◌≡◌, ◌∙◌, ◌≤◌, ◌<◌, ◌+◌, ℕ, zero, suc, Bool, true, false, not, if◌then◌else◌, List, [], ◌∷◌, ◌++◌, length, get_or, take, drop, map, flat_map, refl, sym, ap, subst, inl, inr, arith, drop-cons}
-use Rattle.std.specs.Prelude.{Option, Some, None, Result, Ok, Err, IfOk}
+use Rattle.std.proofs.Common.{◌≡◌, ◌∙◌, ◌≤◌, ◌<◌, ◌+◌, ℕ, zero, suc, not, List, [], ◌∷◌, ◌++◌, length, get_or, take, map, flat_map, refl, sym, ap, subst, inl, inr, arith}
 use Rattle.std.specs.List.{All, AllPairs}
 use Rattle.std.proofs.lemmas.List.{take_more, take_all, map-append}
 use Rattle.std.proofs.lemmas.List.Kept.{AllPairs-cons}
@@ -10,13 +9,10 @@ use Rattle.iv_lex.specs.declared.cutting.Token.{Token}
 use Rattle.iv_lex.specs.Token.{tokens_of}
 use Rattle.iv_lex.specs.Place.{AreInOrder}
 use Rattle.iv_outer.specs.declared.pieces.Piece.{Piece}
-use Rattle.iv_outer.specs.declared.reading.Command.{Command as Read}
 use Rattle.iv_outer.specs.Piece.{begins, plain_more, pieces_from, pieces_of}
-use Rattle.iv_outer.specs.Command.{IsCommand, HasPlace, at_of}
+use Rattle.iv_outer.specs.Command.{HasPlace}
 use Rattle.isarvm.specs.declared.commands.Command.{Command}
-use Rattle.isarvm.specs.declared.commands.Form.{Form}
-use Rattle.isarvm.specs.Command.{is_name, is_colon, is_left, is_quoted, is_assumption, unbuilt, lemma_form, stated_form, labelled_form, lemma_of, by_form, by_of, built_of, place_in, run_of, runs_of, AreEach, IsBuilt, IsRead, IsRun, IsNoLater, StandsIn}
-use Rattle.isarvm.specs.Reading.{reading_of}
+use Rattle.isarvm.specs.Command.{place_in, run_of, runs_of, AreEach, IsBuilt, IsRead, IsRun, IsNoLater, StandsIn}
 use Rattle.isarvm.proofs.TokenOrder.{few_tokens}
 
 -- what is known of each is what is built of each

@@ -13,7 +13,7 @@ use Rattle.iv_outer.specs.declared.reading.Command.{Command as Read}
 use Rattle.iv_outer.specs.declared.reading.Reading.{Reading}
 use Rattle.iv_outer.specs.declared.reading.Reading.TheVariants as reading
 use Rattle.iv_outer.specs.Piece.{pieces_of}
-use Rattle.iv_outer.specs.Command.{IsCommand, HasPlace, at_of}
+use Rattle.iv_outer.specs.Command.{IsCommand, HasPlace}
 use Rattle.isarvm.specs.declared.commands.Form.{Form}
 use Rattle.isarvm.specs.declared.commands.Form.TheVariants as form
 use Rattle.isarvm.specs.declared.commands.Command.{Command}

@@ -1,4 +1,4 @@
-use Rattle.std.proofs.Common.{◌≡◌, ◌∙◌, length, sym, subst, arith, ap}
+use Rattle.std.proofs.Common.{◌∙◌, length, sym, subst, arith, ap}
 use Rattle.iv_lex.specs.Place.{AreInOrder}
 use Rattle.iv_outer.specs.Piece.{pieces_of}
 use Rattle.isarvm.proofs.TokenOrder.{count_of_tokens}
