@@ -1,0 +1,5 @@
+pub mod Retype
+pub mod Inst
+pub mod Subst
+pub mod Made
+pub mod Laws
