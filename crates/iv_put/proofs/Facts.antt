@@ -4,3 +4,8 @@ pub mod Inst
 pub mod InstUse
 pub mod Composed
 pub mod Entries
+pub mod Tests
+pub mod Values
+pub mod Short
+pub mod Code
+pub mod Loops

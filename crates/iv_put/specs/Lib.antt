@@ -3,3 +3,4 @@ pub mod Inst
 pub mod Subst
 pub mod Made
 pub mod Laws
+pub mod Entries

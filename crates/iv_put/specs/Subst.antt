@@ -7,8 +7,12 @@ use Rattle.iv_term.specs.declared.typ.Typ.TheBlock.{Schematic as Variable, Nil a
 use Rattle.iv_term.specs.declared.term.Head.{Head}
 use Rattle.iv_term.specs.declared.term.Head.TheVariants.{Schematic}
 use Rattle.iv_term.specs.declared.term.Term.{Term}
+use Rattle.iv_term.specs.declared.term.Terms.{Terms}
+use Rattle.iv_term.specs.declared.term.Term.TheBlock.{Spine, Nil}
 use Rattle.iv_term.specs.Typ.{same_name}
+use Rattle.iv_term.specs.Term.{lam, tm_cons}
 use Rattle.iv_hsub.specs.Typing.{IsTerm}
+use Rattle.iv_hsub.specs.Index.{contracts}
 use Rattle.iv_subst.specs.TySubst.{TyMap, at}
 use Rattle.iv_subst.specs.TySubst as types_specs
 use Rattle.iv_put.specs.Retype.{retype}
@@ -57,6 +61,16 @@ CanApply s t = Vars (λ h a. Fits (values s h) a) (retype (by_map s.0) t)
 -- a tree is a term, where its loose indices have some types
 abbrev pub IsOpenTerm : Term → Type 0
 IsOpenTerm t = (bounds : Types) × IsTerm bounds t
+
+abbrev mutual
+  -- no abstraction in a term can be contracted
+  pub IsShort : Term → Type 0
+  IsShort (lam a b) = IsShort b × (contracts b ≡ false)
+  IsShort (Spine h ts) = AreShort ts
+
+  pub AreShort : Terms → Type 0
+  AreShort Nil = Unit {0}
+  AreShort (tm_cons t ts) = IsShort t × AreShort ts
 
 -- what holds of each value
 unfoldable pub Values : (Term → Type 0) → TermMap → Type 0
