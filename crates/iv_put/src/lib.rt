@@ -14,3 +14,6 @@ pub mod substitution;
 
 pub use retyping::retype;
 pub use substitution::Subst;
+
+#[cfg(test)]
+mod tests;

@@ -1,5 +1,5 @@
 //! The substitution: types and terms for schematic variables.
-ghost use Rattle.std.specs.Prelude.{◌≡◌, [], ◌∷◌, ◌++◌, ◌<◌, None, Some, MatchOption, length, IfOk, IfErr, OnOk, OnErr, slice_get};
+ghost use Rattle.std.specs.Prelude.{◌≡◌, [], ◌∷◌, ◌++◌, ◌<◌, false, None, Some, MatchOption, length, IfOk, IfErr, OnOk, OnErr, slice_get};
 ghost use Rattle.std.specs.Option.{option_copied};
 ghost use Rattle.iv_term.specs.declared.typ.Typ.TheBlock.{Nil};
 ghost use Rattle.iv_term.specs.declared.want.Want.TheVariants.{Memory};
@@ -114,7 +114,7 @@ impl Subst {
     /// Enters a value for a variable that has none: a term without loose indices. Fails where memory runs out, and the
     /// substitution is then as before.
     pub fn push(&mut self, alloc: Global, name: Name, value: Term) -> Mem<()>
-        requires new { value_of self.old.1 name ≡ None }
+        requires new { has_value self.old.1 name ≡ false }
         requires closed { IsTerm Nil value }
         ensures ok { OnOk result (self.new ≡ (self.old.0, self.old.1 ++ (name, value) ∷ [])) }
         ensures err { OnErr result (self.new ≡ self.old) }
