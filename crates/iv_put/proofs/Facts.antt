@@ -2,6 +2,7 @@ pub mod Retype
 pub mod RetypeUse
 pub mod Inst
 pub mod InstUse
+pub mod Vars
 pub mod Composed
 pub mod Entries
 pub mod Tests

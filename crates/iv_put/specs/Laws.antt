@@ -36,10 +36,15 @@ abbrev pub ComposedIsBoth : Type 0
 ComposedIsBoth = (first next : Substitution) (bounds : Types) (t : Term) → IsTerm bounds t → AreClosed first.1 → AreClosed next.1 → CanCompose first next
     → CanApply first t → CanApply next (applied first t) → CanApply (composed first next) t → applied (composed first next) t ≡ applied next (applied first t)
 
--- it can be applied where the second's values also fit what the first leaves, and its values have no loose index
+-- where the second's values fit what the first leaves, it can be applied, and so can the second after the first
 abbrev pub ComposedCanApply : Type 0
 ComposedCanApply = (first next : Substitution) (t : Term) → AreClosed first.1 → CanCompose first next → CanApply first t → CanFollow first next t
     → CanApply (composed first next) t
 
+abbrev pub NextCanApply : Type 0
+NextCanApply = (first next : Substitution) (bounds : Types) (t : Term) → IsTerm bounds t → CanCompose first next → CanApply first t → CanFollow first next t
+    → CanApply next (applied first t)
+
+-- its values have no loose index
 abbrev pub ComposedIsClosed : Type 0
 ComposedIsClosed = (first next : Substitution) → AreClosed first.1 → AreClosed next.1 → CanCompose first next → AreClosed (composed first next).1

@@ -2,11 +2,13 @@
 ghost use Rattle.std.specs.Prelude.{◌≡◌, IfOk, IfErr};
 ghost use Rattle.std.specs.Option.{unwrap_or};
 ghost use Rattle.iv_term.specs.declared.typ.Typ.{Typ};
+ghost use Rattle.iv_term.specs.declared.typ.Types.{Types};
 ghost use Rattle.iv_term.specs.declared.term.Head.TheVariants.{Const, Free, Schematic};
 ghost use Rattle.iv_term.specs.declared.term.Term.TheBlock.{Spine};
 ghost use Rattle.iv_term.specs.Term.{lam, tm_cons};
 ghost use Rattle.iv_term.specs.declared.want.Want.TheVariants.{Memory};
-ghost use Rattle.iv_subst.specs.TySubst.{put_typ, at};
+ghost use Rattle.iv_hsub.specs.Typing.{type_of, IsTerm, HasType};
+ghost use Rattle.iv_subst.specs.TySubst.{put_typ, put_typs, at};
 ghost use Rattle.iv_put.specs.Retype.{retype_head, retype, retype_all};
 ghost use Rattle.iv_put.specs.Subst.{by_map};
 
@@ -16,9 +18,11 @@ use iv_term::{Head, Mem, Name, Term, Terms, Text, Typ};
 use std::alloc::Global;
 
 /// A term with the map's types in the place of the schematic variables in its types. What holds no variable of the map
-/// is shared. Fails where memory runs out.
+/// is shared. Of a term the result is one, of its type with the map's types put in. Fails where memory runs out.
 pub fn retype(alloc: Global, t: &Term, types: &TySubst) -> Mem<Term>
     ensures ok { IfOk result (λ r. r ≡ retype (by_map types.now) t.now) }
+    ensures typed { (bounds : Types) → IsTerm bounds t.now
+        → IfOk result (λ r. HasType (put_typs (at types.now) bounds) (put_typ (at types.now) (type_of bounds t.now)) r) }
     ensures memory { IfErr result (λ w. w ≡ Memory) }
 {
     match changed(alloc, t, types)? {

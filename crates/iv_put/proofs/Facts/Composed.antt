@@ -20,6 +20,7 @@ use Rattle.iv_put.specs.Subst.{by_name}
 use Rattle.iv_put.proofs.Facts.Retype.{retype-eta, retype-term, retype-has}
 use Rattle.iv_put.proofs.Facts.RetypeUse.{retype-happ}
 use Rattle.iv_put.proofs.Facts.Inst.{closed-has, inst-term, inst-args, Typed}
+use Rattle.iv_put.proofs.Facts.Vars.{Brings, inst-vars}
 use Rattle.iv_put.proofs.Facts.InstUse.{then_value, then_inst, inst-inst}
 
 -- conditions on the variables of a term
@@ -225,6 +226,32 @@ module _ (g : Typ → Typ) (V W : Name → Option Term) where
   closed-mid : Closed V → Closed mid
   unfolding Closed mid
   closed-mid cv x v e = closed-value (V x) v (cv x) e
+
+  -- where the second's values fit what the first leaves, they fit what is left after it
+  mid-brings_some : Follows → (x : Name) (o : Option Term) (v : Term) → V x ≡ o → retype_value g o ≡ Some v → Vars (λ k a. Fits (by_name W k) a) v
+  unfolding Follows retype_value
+  mid-brings_some fol x None v e q = absurd (let bad : None ≡ Some v = q in cc)
+  mid-brings_some fol x (Some w) v e q = subst (Vars (λ k a. Fits (by_name W k) a)) (some-parts (retype g w) v q) (fol x w e)
+
+  mid-none : (o : Option Term) → retype_value g o ≡ None → o ≡ None
+  unfolding retype_value
+  mid-none None q = refl
+  mid-none (Some w) q = absurd (let bad : Some (retype g w) ≡ None = q in cc)
+
+  follows-head : Follows → (h : Head) → HeadVars (λ k a. by_name V k ≡ None → Fits (by_name W k) a) h
+      → HeadVars (Brings (λ k a. Fits (by_name W k) a) (by_name mid)) h
+  unfolding mid
+  follows-head fol (Const x a) q = tt
+  follows-head fol (Free x a) q = (λ v e. absurd (let bad : None ≡ Some v = e in cc), λ e. tt)
+  follows-head fol (Schematic x a) q = (λ v e. mid-brings_some fol x (V x) v refl e, λ e. q (mid-none (V x) e))
+  follows-head fol (Bound n) q = tt
+
+  pub follows-can : (bs : Types) (t : Term) → IsTerm bs t → Vars (λ k a. Fits (by_name V k) a) t → Follows
+      → Vars (λ k a. by_name V k ≡ None → Fits (by_name W k) a) (retype g t) → Vars (λ k a. Fits (by_name W k) a) (retype g (inst (by_name V) t))
+  unfolding mid
+  follows-can bs t p fv fol q =
+      let brings = vars-one (λ k a. by_name V k ≡ None → Fits (by_name W k) a) (Brings (λ k a. Fits (by_name W k) a) (by_name mid)) (follows-head fol) (retype g t) q in
+      subst (Vars (λ k a. Fits (by_name W k) a)) (sym (retype-inst g V bs t fv p)) (inst-vars (λ k a. Fits (by_name W k) a) (by_name mid) (retype g t) brings)
 
   agree-value : Follows → (x : Name) (o : Option Term) (a : Typ) → V x ≡ o → Fits (retype_value g o) a → Fits (then_by_value g W o x) a
       → then_by_value g W o x ≡ then_value (fitting W) (fit (retype_value g o) a) (Schematic x a)

@@ -23,7 +23,7 @@ use Rattle.iv_put.specs.Inst.{inst_head, inst, inst_all, Vars, Fits}
 use Rattle.iv_put.specs.Subst.{TermMap, Substitution, value_of, has_value, by_map, by_name, values, applied, CanApply, Values, AreClosed, under, unhidden, composed, CanCompose, CanFollow}
 use Rattle.iv_put.proofs.Facts.Retype.{retype-term}
 use Rattle.iv_put.proofs.Facts.Inst.{inst-term}
-use Rattle.iv_put.proofs.Facts.Composed.{then_by_value, then_by, inst-then, fits-then, Closed, Follows}
+use Rattle.iv_put.proofs.Facts.Composed.{then_by_value, then_by, inst-then, fits-then, follows-can, Closed, Follows}
 
 -- a map of types as a function
 mutual
@@ -173,6 +173,10 @@ module _ (f g : Substitution) where
   pub can_apply-compose : (t : Term) → AreClosed f.1 → CanCompose f g → CanApply f t → CanFollow f g t → CanApply (composed f g) t
   can_apply-compose t cf k a q =
       can_back t (fits-then (by_map g.0) (value_of f.1) (value_of g.1) (as_closed f cf) (as_follows k) (retype (by_map f.0) t) a q)
+
+  pub can_apply-next : (bs : Types) (t : Term) → IsTerm bs t → CanCompose f g → CanApply f t → CanFollow f g t → CanApply g (applied f t)
+  can_apply-next bs t p k a q =
+      follows-can (by_map g.0) (value_of f.1) (value_of g.1) (map_typs (by_map f.0) bs) (retype (by_map f.0) t) (retype-term (by_map f.0) bs t p).0 a (as_follows k) q
 
   -- the values of a composition are terms without loose indices
   pub closed-applied : (v : Term) → IsTerm no_types v → CanApply g v → IsTerm no_types (applied g v)
