@@ -1,0 +1,176 @@
+-- What look-ups give.
+use Rattle.std.proofs.Common.{◌≡◌, ℕ, zero, suc, Bool, true, false, IsTrue, ◌↔◌, is_some, if◌then◌else◌, Option, Some, None, Bor, List, [], ◌∷◌, ◌++◌, slice_get, ◌+◌, ◌<◌, ◌≤◌, length, map, drop, get_or, refl, sym, ◌∙◌, ap, subst, arith}
+use Rattle.std.specs.Option.{unwrap_or, option_copied}
+use Rattle.std.specs.Option.{option_map}
+use Rattle.std.proofs.lemmas.List.{drop_more, drop_all}
+use Rattle.std.proofs.lemmas.Option.{slice_get-map, slice_get-get_or}
+use Rattle.iv_term.specs.declared.name.Name.{Name}
+use Rattle.iv_term.specs.declared.typ.Typ.{Typ}
+use Rattle.iv_term.specs.declared.typ.Typ.TheBlock.{Schematic as Variable, Nil as no_types}
+use Rattle.iv_term.specs.declared.term.Term.{Term}
+use Rattle.iv_term.specs.Typ.{same_name}
+use Rattle.iv_term.specs.declared.term.Head.TheVariants.{Schematic}
+use Rattle.iv_term.specs.declared.term.Terms.{Terms}
+use Rattle.iv_term.specs.declared.term.Term.TheBlock.{Spine}
+use Rattle.iv_hsub.specs.Typing.{HasType}
+use Rattle.iv_hsub.specs.Hsub.{happ}
+use Rattle.iv_hsub.specs.Made.{made_happ}
+use Rattle.iv_subst.specs.TySubst.{TyMap, put_typ, at, seek}
+use Rattle.iv_subst.proofs.Laws.Entries.{at-seek, drop-at}
+use Rattle.iv_subst.proofs.Laws.Put.{put-none}
+use Rattle.iv_put.specs.declared.substitution.Entry.{Entry}
+use Rattle.iv_put.specs.Subst.{TermMap, Substitution, value_of, has_value, by_map, values, Values, AreClosed}
+use Rattle.iv_put.specs.Retype.{map_typ, retype_head}
+use Rattle.iv_put.specs.Inst.{use_value, inst_head, Fits}
+use Rattle.iv_put.specs.Made.{made_use, made_inst_head}
+use Rattle.iv_put.specs.Entries.{terms_in, AreTyped}
+use Rattle.iv_put.proofs.Facts.Entries.{map-by}
+use Rattle.iv_put.proofs.Facts.Tests.{via, never, is_not}
+
+pub at-missing : (s : TyMap) (x : Name) (o : Option (Bor Typ)) → option_copied o ≡ seek s x → o ≡ None → at s x ≡ Variable x
+at-missing s x o e q = sym (at-seek s x) ∙ ap (λ z. unwrap_or z (Variable x)) (sym e ∙ ap option_copied q)
+
+pub at-found : (s : TyMap) (x : Name) (o : Option (Bor Typ)) (b : Bor Typ) → option_copied o ≡ seek s x → o ≡ Some b → at s x ≡ b.now
+at-found s x o b e q = sym (at-seek s x) ∙ ap (λ z. unwrap_or z (Variable x)) (sym e ∙ ap option_copied q)
+
+-- the entry at an index, and those behind it
+pub drop-here : (es : List Entry) (i : ℕ) (e : Entry) → i < length es → e ≡ get_or es i e → drop i es ≡ e ∷ drop (i + 1) es
+drop-here es i e l g = drop_more es i e l ∙ ap (λ z. z ∷ drop (i + 1) es) (sym g)
+
+pub value-here : (m : TermMap) (es : List Entry) (i : ℕ) (e : Entry) (y : Name) → value_of m y ≡ value_of (terms_in (drop i es)) y → AreTyped (drop i es)
+    → i < length es → e ≡ get_or es i e → same_name y e.name ≡ true → (value_of m y ≡ Some e.value) × HasType no_types e.typ e.value
+unfolding value_of terms_in AreTyped
+value-here m es i e y k t l g q =
+    let h = drop-here es i e l g in
+    let step : value_of (terms_in (e ∷ drop (i + 1) es)) y ≡ Some e.value = rw q refl in
+    let typed : AreTyped (e ∷ drop (i + 1) es) = subst AreTyped h t in
+    (k ∙ ap (λ z. value_of (terms_in z) y) h ∙ step, typed.0)
+
+pub value-on : (m : TermMap) (es : List Entry) (i : ℕ) (e : Entry) (y : Name) → value_of m y ≡ value_of (terms_in (drop i es)) y → AreTyped (drop i es)
+    → i < length es → e ≡ get_or es i e → same_name y e.name ≡ false
+    → (value_of m y ≡ value_of (terms_in (drop (i + 1) es)) y) × AreTyped (drop (i + 1) es)
+unfolding value_of terms_in AreTyped
+value-on m es i e y k t l g q =
+    let h = drop-here es i e l g in
+    let step : value_of (terms_in (e ∷ drop (i + 1) es)) y ≡ value_of (terms_in (drop (i + 1) es)) y = rw q refl in
+    let typed : AreTyped (e ∷ drop (i + 1) es) = subst AreTyped h t in
+    (k ∙ ap (λ z. value_of (terms_in z) y) h ∙ step, typed.1)
+
+pub value-end : (m : TermMap) (es : List Entry) (i : ℕ) (y : Name) → value_of m y ≡ value_of (terms_in (drop i es)) y → length es ≤ i → value_of m y ≡ None
+unfolding value_of terms_in
+value-end m es i y k l = k ∙ ap (λ z. value_of (terms_in z) y) (drop_all i es l)
+
+-- an entry at the end
+pub typed-push : (es : List Entry) (e : Entry) → AreTyped es → HasType no_types e.typ e.value → AreTyped (es ++ e ∷ [])
+unfolding AreTyped
+typed-push [] e p q = (q, tt)
+typed-push (d ∷ es) e p q = (p.0, typed-push es e p.1 q)
+
+terms-push : (es : List Entry) (e : Entry) → terms_in (es ++ e ∷ []) ≡ terms_in es ++ (e.name, e.value) ∷ []
+unfolding terms_in
+terms-push [] e = refl
+terms-push (d ∷ es) e = ap (λ z. (d.name, d.value) ∷ z) (terms-push es e)
+
+abbrev pub both : TyMap → TermMap → Substitution
+both types terms = (types, terms)
+
+pub added : (s : Substitution) (types : TyMap) (es more : List Entry) (e : Entry) → both types (terms_in es) ≡ s → more ≡ es ++ e ∷ []
+    → both types (terms_in more) ≡ both s.0 (s.1 ++ (e.name, e.value) ∷ [])
+added s types es more e k q = ap (both types) (ap terms_in q ∙ terms-push es e) ∙ ap (λ z. both z.0 (z.1 ++ (e.name, e.value) ∷ [])) k
+
+-- what is seen of all entries
+pub length-terms : (es : List Entry) → length (terms_in es) ≡ length es
+unfolding terms_in
+length-terms [] = refl
+length-terms (e ∷ es) = ap suc (length-terms es)
+
+pub closed-in : (es : List Entry) → AreTyped es → AreClosed (terms_in es)
+unfolding AreTyped terms_in Values
+closed-in [] p = tt
+closed-in (e ∷ es) p = (p.0.0, closed-in es p.1)
+
+entry_of : Entry → Name × Term
+entry_of e = (e.name, e.value)
+
+terms-map : (es : List Entry) → terms_in es ≡ map entry_of es
+unfolding terms_in entry_of
+terms-map [] = refl
+terms-map (e ∷ es) = ap (λ z. (e.name, e.value) ∷ z) (terms-map es)
+
+pub terms-at : (es : List Entry) (i : ℕ) (e : Entry) → slice_get es i ≡ Some e → slice_get (terms_in es) i ≡ Some (e.name, e.value)
+unfolding entry_of
+terms-at es i e h = ap (λ z. slice_get z i) (terms-map es) ∙ slice_get-map entry_of es i ∙ ap (option_map entry_of) h
+
+pub typed-at : (es : List Entry) (i : ℕ) (e : Entry) → AreTyped es → slice_get es i ≡ Some e → HasType no_types e.typ e.value
+unfolding AreTyped
+typed-at [] i e p h = absurd (let bad : None ≡ Some e = h in cc)
+typed-at (d ∷ es) zero e p h = subst (λ z. HasType no_types z.typ z.value) (some-parts d e h) p.0
+  where
+    some-parts : (x y : Entry) → Some x ≡ Some y → x ≡ y
+    some-parts x y q = cc
+typed-at (d ∷ es) (suc i) e p h = typed-at es i e p.1 h
+
+pub entry-at : (es : List Entry) (i : ℕ) (e : Entry) → i < length es → e ≡ get_or es i e → slice_get es i ≡ Some e
+entry-at es i e l q = slice_get-get_or es i e l ∙ ap Some (sym q)
+
+-- a map without entries
+pub empty-stays : (s : TyMap) (a : Typ) → length s ≡ 0 → a ≡ put_typ (at s) a
+unfolding at
+empty-stays [] a e = sym (put-none a)
+empty-stays (x ∷ s) a e = absurd (let bad : suc (length s) ≡ 0 = e in omega (arith, bad))
+
+-- what a look-up says of a head
+has-value_by : (e : Name × Term) (o : Option Term) (b v : Bool) → is_some o ≡ b → is_some (if v then Some e.1 else o) ≡ (if v then true else b)
+has-value_by e o b true k = refl
+has-value_by e o b false k = k
+
+has-value : (m : TermMap) (y : Name) → is_some (value_of m y) ≡ has_value m y
+unfolding value_of has_value
+has-value [] y = refl
+has-value (e ∷ m) y = has-value_by e (value_of m y) (has_value m y) (same_name y e.0) (has-value m y)
+
+copied-some : (o : Option (Bor Term)) → is_some o ≡ is_some (option_copied o)
+copied-some None = refl
+copied-some (Some x) = refl
+
+pub has-found : (o : Option (Bor Term)) (m : TermMap) (y : Name) → option_copied o ≡ value_of m y → is_some o ≡ has_value m y
+has-found o m y e = copied-some o ∙ ap is_some e ∙ has-value m y
+
+pub at-no_value : (s : Substitution) (x : Name) (a : Typ) → value_of s.1 x ≡ None
+    → (us : Terms) → inst_head (values s) (retype_head (by_map s.0) (Schematic x a)) us ≡ Spine (retype_head (by_map s.0) (Schematic x a)) us
+at-no_value s x a e us = ap (λ o. use_value o (Schematic x (map_typ (by_map s.0) a)) (map_typ (by_map s.0) a) us) e
+
+pub at-value : (s : Substitution) (x : Name) (a : Typ) (v : Term) → value_of s.1 x ≡ Some v
+    → (us : Terms) → (inst_head (values s) (retype_head (by_map s.0) (Schematic x a)) us ≡ happ (put_typ (at s.0) a) v us)
+    × (made_inst_head (values s) (retype_head (by_map s.0) (Schematic x a)) us ≡ made_happ (put_typ (at s.0) a) v us)
+at-value s x a v e us = (
+  ap (λ o. use_value o (Schematic x (map_typ (by_map s.0) a)) (map_typ (by_map s.0) a) us) e ∙ ap (λ b. happ b v us) (map-by s.0 a),
+  ap (λ o. made_use o (map_typ (by_map s.0) a) us) e ∙ ap (λ b. made_happ b v us) (map-by s.0 a),
+)
+
+pub fits-when : (s : Substitution) (x : Name) (a b : Typ) (v : Term) (r : Bool) → value_of s.1 x ≡ Some v → HasType no_types b v
+    → (IsTrue r ↔ (put_typ (at s.0) a ≡ b)) → (IsTrue r ↔ Fits (value_of s.1 x) (map_typ (by_map s.0) a))
+fits-when s x a b v r e p d =
+    let m = map-by s.0 a in
+    subst (λ o. IsTrue r ↔ Fits o (map_typ (by_map s.0) a)) (sym e)
+    (via (put_typ (at s.0) a ≡ b) (Fits (Some v) (map_typ (by_map s.0) a)) r (λ q. (p.0, p.1 ∙ sym q ∙ sym m)) (λ q. sym m ∙ sym q.1 ∙ p.1) d)
+
+-- a loop over all values
+module _ (Q : Type 0) (P : Term → Type 0) (m : TermMap) (i : ℕ) where
+  pub values-no : (x : Name) (v : Term) (r : Bool) → slice_get m i ≡ Some (x, v) → (Q → Values P (drop i m)) → (IsTrue r ↔ P v) → r ≡ false → (IsTrue false ↔ Q)
+  unfolding Values
+  values-no x v r h k d e =
+      never Q (λ q. let p : Values P ((x, v) ∷ drop (i + 1) m) = subst (Values P) (drop-at m i (x, v) h) (k q) in is_not (P v) r d e p.0)
+
+  pub values-on : (x : Name) (v : Term) → slice_get m i ≡ Some (x, v) → (Q → Values P (drop i m)) × (Values P (drop i m) → Q) → P v
+      → (Q → Values P (drop (i + 1) m)) × (Values P (drop (i + 1) m) → Q)
+  unfolding Values
+  values-on x v h k p =
+      let e = drop-at m i (x, v) h in (
+        λ q. let all : Values P ((x, v) ∷ drop (i + 1) m) = subst (Values P) e (k.0 q) in all.1,
+        λ q. let all : Values P ((x, v) ∷ drop (i + 1) m) = (p, q) in k.1 (subst (Values P) (sym e) all),
+      )
+
+  pub values-end : (Values P (drop i m) → Q) → length m ≤ i → (IsTrue true ↔ Q)
+  unfolding Values
+  values-end k l = let none : Values P [] = tt in (λ h. k (subst (Values P) (sym (drop_all i m l)) none), λ q. refl)

@@ -1,0 +1,56 @@
+//! Substitutions composed.
+ghost use Rattle.std.specs.Prelude.{◌≡◌, ◌++◌, IfOk, IfErr, OnOk};
+ghost use Rattle.iv_term.specs.declared.want.Want.TheVariants.{Memory, Number};
+ghost use Rattle.iv_hsub.specs.Made.{IsPast};
+ghost use Rattle.iv_put.specs.Subst.{under, unhidden, composed, CanCompose};
+ghost use Rattle.iv_put.specs.Made.{made_under};
+
+use crate::substitution::Subst;
+use iv_term::Mem;
+use std::alloc::Global;
+
+impl Subst {
+    /// The substitution that puts this one's types and terms, and then those of `next`. The entries of this one come
+    /// first. Fails with `Number` only where an index or a depth that is made on the way is 4,294,967,295 or more.
+    pub fn compose(&self, alloc: Global, next: &Subst) -> Mem<Subst>
+        requires { CanCompose self.now next.now }
+        ensures ok { IfOk result (λ s. s ≡ composed self.now next.now) }
+        ensures number { IfErr result (λ w. w ≡ Number → IsPast (made_under next.now self.now.1)) }
+    {
+        let types = self.types().compose(alloc, next.types())?;
+        let mut both = Subst::new(alloc, types);
+        self.add_under(alloc, next, &mut both)?;
+        next.add_unhidden(alloc, self, &mut both)?;
+        Ok(both)
+    }
+
+    /// Puts all entries at the end of `both`, each value under `next`.
+    fn add_under(&self, alloc: Global, next: &Subst, both: &mut Subst) -> Mem<()>
+        requires { CanCompose self.now next.now }
+        ensures ok { OnOk result (both.new ≡ (both.old.0, both.old.1 ++ under next.now self.now.1)) }
+        ensures number { IfErr result (λ w. w ≡ Number → IsPast (made_under next.now self.now.1)) }
+    {
+        for i in 0..self.len() {
+            let (name, value) = self.entry(i);
+            let value = next.apply(alloc, value)?;
+            both.add(alloc, name.copy()?, value)?;
+        }
+        Ok(())
+    }
+
+    /// Puts the entries at the end of `both` whose variables have none in `first`.
+    fn add_unhidden(&self, alloc: Global, first: &Subst, both: &mut Subst) -> Mem<()>
+        ensures ok { OnOk result (both.new ≡ (both.old.0, both.old.1 ++ unhidden first.now.1 self.now.1)) }
+        ensures memory { IfErr result (λ w. w ≡ Memory) }
+    {
+        for i in 0..self.len() {
+            let (name, value) = self.entry(i);
+            if first.has(name) {
+                continue;
+            }
+            let value = value.copy()?;
+            both.add(alloc, name.copy()?, value)?;
+        }
+        Ok(())
+    }
+}

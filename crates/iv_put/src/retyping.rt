@@ -1,0 +1,246 @@
+//! Types put in a term.
+ghost use Rattle.std.specs.Prelude.{◌≡◌, IfOk, IfErr};
+ghost use Rattle.std.specs.Option.{unwrap_or};
+ghost use Rattle.iv_term.specs.declared.typ.Typ.{Typ};
+ghost use Rattle.iv_term.specs.declared.typ.Types.{Types};
+ghost use Rattle.iv_term.specs.declared.term.Head.TheVariants.{Const, Free, Schematic};
+ghost use Rattle.iv_term.specs.declared.term.Term.TheBlock.{Spine};
+ghost use Rattle.iv_term.specs.Term.{lam, tm_cons};
+ghost use Rattle.iv_term.specs.declared.want.Want.TheVariants.{Memory};
+ghost use Rattle.iv_hsub.specs.Typing.{type_of, IsTerm, HasType};
+ghost use Rattle.iv_subst.specs.TySubst.{put_typ, put_typs, at};
+ghost use Rattle.iv_put.specs.Retype.{retype_head, retype, retype_all};
+ghost use Rattle.iv_put.specs.Subst.{by_map};
+
+use iv_shared::Shared;
+use iv_subst::TySubst;
+use iv_term::{Head, Mem, Name, Term, Terms, Text, Typ};
+use std::alloc::Global;
+
+/// A term with the map's types in the place of the schematic variables in its types. What holds no variable of the map
+/// is shared. Of a term the result is one, of its type with the map's types put in. Fails where memory runs out.
+pub fn retype(alloc: Global, t: &Term, types: &TySubst) -> Mem<Term>
+    ensures ok { IfOk result (λ r. r ≡ retype (by_map types.now) t.now) }
+    ensures typed { (bounds : Types) → IsTerm bounds t.now
+        → IfOk result (λ r. HasType (put_typs (at types.now) bounds) (put_typ (at types.now) (type_of bounds t.now)) r) }
+    ensures memory { IfErr result (λ w. w ≡ Memory) }
+{
+    match changed(alloc, t, types)? {
+        None => t.copy(),
+        Some(term) => Ok(term),
+    }
+}
+
+/// The type under the map, or `None` where it stays.
+pub(crate) fn changed_typ(alloc: Global, a: &Typ, types: &TySubst) -> Mem<Option<Typ>>
+    ensures ok { IfOk result (λ r. unwrap_or r a.now ≡ put_typ (at types.now) a.now) }
+    ensures memory { IfErr result (λ w. w ≡ Memory) }
+{
+    if types.len() == 0 {
+        return Ok(None);
+    }
+    let typ = types.apply_typ(alloc, a)?;
+    if typ.is(a) { Ok(None) } else { Ok(Some(typ)) }
+}
+
+/// A constant at its new type, if it has one.
+fn constant(c: &Text, typ: Option<Typ>) -> Mem<Option<Head>>
+    ensures ok { IfOk result (λ r. (a : Typ) → unwrap_or r (Const c.now a) ≡ Const c.now (unwrap_or typ a)) }
+    ensures memory { IfErr result (λ w. w ≡ Memory) }
+{
+    match typ {
+        None => Ok(None),
+        Some(typ) => Ok(Some(Head::Const(c.copy()?, typ))),
+    }
+}
+
+/// A free variable at its new type, if it has one.
+fn free(x: &Name, typ: Option<Typ>) -> Mem<Option<Head>>
+    ensures ok { IfOk result (λ r. (a : Typ) → unwrap_or r (Free x.now a) ≡ Free x.now (unwrap_or typ a)) }
+    ensures memory { IfErr result (λ w. w ≡ Memory) }
+{
+    match typ {
+        None => Ok(None),
+        Some(typ) => Ok(Some(Head::Free(x.copy()?, typ))),
+    }
+}
+
+/// A schematic variable at its new type, if it has one.
+fn schematic(x: &Name, typ: Option<Typ>) -> Mem<Option<Head>>
+    ensures ok { IfOk result (λ r. (a : Typ) → unwrap_or r (Schematic x.now a) ≡ Schematic x.now (unwrap_or typ a)) }
+    ensures memory { IfErr result (λ w. w ≡ Memory) }
+{
+    match typ {
+        None => Ok(None),
+        Some(typ) => Ok(Some(Head::Schematic(x.copy()?, typ))),
+    }
+}
+
+/// The head under the map, or `None` where it stays.
+pub(crate) fn changed_head(alloc: Global, h: &Head, types: &TySubst) -> Mem<Option<Head>>
+    ensures ok { IfOk result (λ r. unwrap_or r h.now ≡ retype_head (by_map types.now) h.now) }
+    ensures memory { IfErr result (λ w. w ≡ Memory) }
+{
+    match h {
+        Head::Const(c, a) => {
+            let typ = changed_typ(alloc, a, types)?;
+            constant(c, typ)
+        }
+        Head::Free(x, a) => {
+            let typ = changed_typ(alloc, a, types)?;
+            free(x, typ)
+        }
+        Head::Schematic(x, a) => {
+            let typ = changed_typ(alloc, a, types)?;
+            schematic(x, typ)
+        }
+        Head::Bound(_n) => Ok(None),
+    }
+}
+
+/// The term under the map, or `None` where it stays.
+#[cycle(changed)]
+fn changed(alloc: Global, t: &Term, types: &TySubst) -> Mem<Option<Term>>
+    ensures ok { IfOk result (λ r. unwrap_or r t.now ≡ retype (by_map types.now) t.now) }
+    ensures memory { IfErr result (λ w. w ≡ Memory) }
+{
+    match t {
+        Term::Abs(a, b) => {
+            let body = changed(alloc, b.get(), types)?;
+            let typ = changed_typ(alloc, a, types)?;
+            with_body(alloc, a, typ, body, b)
+        }
+        Term::Spine(h, ts) => {
+            let args = changed_all(alloc, ts, types)?;
+            let head = changed_head(alloc, h, types)?;
+            with_args(h, head, args, ts)
+        }
+    }
+}
+
+/// The same of some terms.
+#[cycle(changed)]
+fn changed_all(alloc: Global, ts: &Terms, types: &TySubst) -> Mem<Option<Terms>>
+    ensures ok { IfOk result (λ r. unwrap_or r ts.now ≡ retype_all (by_map types.now) ts.now) }
+    ensures memory { IfErr result (λ w. w ≡ Memory) }
+{
+    match ts {
+        Terms::Nil => Ok(None),
+        Terms::Cons(t, rest) => {
+            let first = changed(alloc, t.get(), types)?;
+            let more = changed_all(alloc, rest.get(), types)?;
+            with_parts(alloc, first, t, more, rest)
+        }
+    }
+}
+
+/// An abstraction where the type or the body may be new.
+fn with_body(
+    alloc: Global,
+    a: &Typ,
+    typ: Option<Typ>,
+    body: Option<Term>,
+    old: &Shared<Term>,
+) -> Mem<Option<Term>>
+    ensures ok { IfOk result (λ r. unwrap_or r (lam a.now old.now) ≡ lam (unwrap_or typ a.now) (unwrap_or body old.now)) }
+    ensures memory { IfErr result (λ w. w ≡ Memory) }
+{
+    match typ {
+        None => match body {
+            None => Ok(None),
+            Some(body) => {
+                let body = Shared::new(alloc, body)?;
+                Ok(Some(Term::Abs(a.copy()?, body)))
+            }
+        },
+        Some(typ) => {
+            let body = kept(alloc, body, old)?;
+            Ok(Some(Term::Abs(typ, body)))
+        }
+    }
+}
+
+/// A head with arguments where either may be new.
+pub(crate) fn with_args(
+    h: &Head,
+    head: Option<Head>,
+    args: Option<Terms>,
+    old: &Terms,
+) -> Mem<Option<Term>>
+    ensures ok { IfOk result (λ r. unwrap_or r (Spine h.now old.now) ≡ Spine (unwrap_or head h.now) (unwrap_or args old.now)) }
+    ensures memory { IfErr result (λ w. w ≡ Memory) }
+{
+    match head {
+        None => match args {
+            None => Ok(None),
+            Some(args) => Ok(Some(Term::Spine(h.copy()?, args))),
+        },
+        Some(head) => {
+            let args = new_or_copy(args, old)?;
+            Ok(Some(Term::Spine(head, args)))
+        }
+    }
+}
+
+/// The new arguments, if there are any, or a copy of the old ones.
+pub(crate) fn new_or_copy(new: Option<Terms>, old: &Terms) -> Mem<Terms>
+    ensures ok { IfOk result (λ ts. ts ≡ unwrap_or new old.now) }
+    ensures memory { IfErr result (λ w. w ≡ Memory) }
+{
+    match new {
+        None => old.copy(),
+        Some(terms) => Ok(terms),
+    }
+}
+
+/// A list of terms where the first or the rest may be new.
+pub(crate) fn with_parts(
+    alloc: Global,
+    first: Option<Term>,
+    old_first: &Shared<Term>,
+    rest: Option<Terms>,
+    old_rest: &Shared<Terms>,
+) -> Mem<Option<Terms>>
+    ensures ok { IfOk result (λ r. unwrap_or r (tm_cons old_first.now old_rest.now)
+        ≡ tm_cons (unwrap_or first old_first.now) (unwrap_or rest old_rest.now)) }
+    ensures memory { IfErr result (λ w. w ≡ Memory) }
+{
+    match first {
+        None => with_rest(alloc, old_first, rest, old_rest),
+        Some(first) => {
+            let first = Shared::new(alloc, first)?;
+            let rest = kept(alloc, rest, old_rest)?;
+            Ok(Some(Terms::Cons(first, rest)))
+        }
+    }
+}
+
+/// A list of terms where the rest may be new.
+fn with_rest(
+    alloc: Global,
+    first: &Shared<Term>,
+    rest: Option<Terms>,
+    old_rest: &Shared<Terms>,
+) -> Mem<Option<Terms>>
+    ensures ok { IfOk result (λ r. unwrap_or r (tm_cons first.now old_rest.now) ≡ tm_cons first.now (unwrap_or rest old_rest.now)) }
+    ensures memory { IfErr result (λ w. w ≡ Memory) }
+{
+    match rest {
+        None => Ok(None),
+        Some(rest) => {
+            let rest = Shared::new(alloc, rest)?;
+            Ok(Some(Terms::Cons(first.share()?, rest)))
+        }
+    }
+}
+
+/// The new value, or the old one shared.
+pub(crate) fn kept<T: Drop>(alloc: Global, new: Option<T>, old: &Shared<T>) -> Mem<Shared<T>>
+    ensures ok { IfOk result (λ s. s ≡ unwrap_or new old.now) }
+    ensures memory { IfErr result (λ w. w ≡ Memory) }
+{
+    match new {
+        None => Ok(old.share()?),
+        Some(value) => Ok(Shared::new(alloc, value)?),
+    }
+}
