@@ -41,7 +41,7 @@ module _ (law : Law) where
       (R.named_atts_read law n h a (apart law (sort.Only class.Left) (sort.Only class.Colon) refl c.class k)) (rw (k, b) refl)
 
   more_axioms_read : {xs : List Axiom} {ts us : List Lexeme} (d : IsMoreAxioms xs ts us) → begins (sort.Only class.And) us ≡ false
-    → (found : List Axiom) (steps : List Lexeme) → length ts ≤ length steps → many (begins (sort.Only class.And)) (λ us. K.an_axiom (behind us)) found steps ts ≡ unless (deep_more_axioms d) (found ++ xs) us
+      → (found : List Axiom) (steps : List Lexeme) → length ts ≤ length steps → many (begins (sort.Only class.And)) (λ us. K.an_axiom (behind us)) found steps ts ≡ unless (deep_more_axioms d) (found ++ xs) us
   unfolding many unless
   more_axioms_read {us = us} C.no_more_axioms e found steps b = many_stop (begins (sort.Only class.And)) (λ us. K.an_axiom (behind us)) found steps us e ∙ ap (λ z. got z us) (sym (append-nil found))
   more_axioms_read (C.more_axioms a d r) e found [] b = absurd (omega (arith, b))
@@ -57,13 +57,13 @@ module _ (law : Law) where
       rw h (then_unless (deep_axiom d) (deep_more_axioms r) y (y ∷ ys) us vs _ (an_axiom_read d) (more_axioms_read r e (y ∷ []) us (omega (arith))))
 
   fixes_read : {gs : List VarGroup} {ts us : List Lexeme} → IsFixes gs ts us → begins (sort.Only class.Fixes) us ≡ false → begins (sort.Only class.Colons) us ≡ false → begins sort.Identifier us ≡ false
-    → begins (sort.Only class.And) us ≡ false → K.fixes ts ≡ got gs us
+      → begins (sort.Only class.And) us ≡ false → K.fixes ts ≡ got gs us
   unfolding K.fixes
   fixes_read C.no_fixes w c i a = rw w refl
   fixes_read (C.fixes h v) w c i a = rw h (R.vars_read law v c i a)
 
   assumes_read : {gs : List Group} {ts us : List Lexeme} (d : IsAssumes gs ts us) → begins (sort.Only class.Assumes) us ≡ false → begins (sort.Only class.Open) us ≡ false → begins sort.Term us ≡ false
-    → begins (sort.Only class.Colon) us ≡ false → begins (sort.Only class.Left) us ≡ false → begins (sort.Only class.And) us ≡ false → K.assumes ts ≡ unless (deep_assumes d) gs us
+      → begins (sort.Only class.Colon) us ≡ false → begins (sort.Only class.Left) us ≡ false → begins (sort.Only class.And) us ≡ false → K.assumes ts ≡ unless (deep_assumes d) gs us
   unfolding K.assumes unless
   assumes_read C.no_assumes w o t c e a = rw w refl
   assumes_read (C.assumes h v) w o t c e a = rw h (R.props_read law v o t c e a)
@@ -80,12 +80,12 @@ module _ (law : Law) where
   unfolding P.begins_label
   no_label_long {us = us} w f a s =
       let left : begins (sort.Only class.Left) us ≡ false =
-          First.free_IsFixes law (sort.Only class.Left) refl f (First.free_IsAssumes law (sort.Only class.Left) refl a (apart law (sort.Only class.Left) (sort.Only class.Shows) refl w.class s)) in
+      First.free_IsFixes law (sort.Only class.Left) refl f (First.free_IsAssumes law (sort.Only class.Left) refl a (apart law (sort.Only class.Left) (sort.Only class.Shows) refl w.class s)) in
       let name : begins sort.Name us ≡ false = First.free_IsFixes law sort.Name refl f (First.free_IsAssumes law sort.Name refl a (apart law sort.Name (sort.Only class.Shows) refl w.class s)) in
       rw (left, name) refl
 
   pub statement_read : {s : Statement} {ts us : List Lexeme} (d : IsStatement s ts us) → begins (sort.Only class.Open) us ≡ false → begins (sort.Only class.Colon) us ≡ false → begins (sort.Only class.Left) us ≡ false
-    → K.statement ts ≡ unless (deep_statement d) s us
+      → K.statement ts ≡ unless (deep_statement d) s us
   unfolding K.statement K.begins_long unless then_
   statement_read (C.short {l = l} {p = p} {us = us} {vs = vs} d q) o c e =
       then_got (deep_opt_label d) l (VStatement.Short l p) us vs _ (R.opt_label_read law d (R.no_label_ahead law q c e))
@@ -101,7 +101,9 @@ module _ (law : Law) where
       let not_colon : has (sort.Only class.Colon) w.class ≡ false = apart law (sort.Only class.Colon) (sort.Only class.Shows) refl w.class s in
       let not_left : has (sort.Only class.Left) w.class ≡ false = apart law (sort.Only class.Left) (sort.Only class.Shows) refl w.class s in
       then_unless (deep_opt_label d) (deep_assumes a) l (VStatement.Long l xs gs p) us ys _ (R.opt_label_read law d (no_label_long w f a s))
-      (rw (long_begins w f a s, fixes_read f (First.free_IsAssumes law (sort.Only class.Fixes) refl a not_fixes) (First.free_IsAssumes law (sort.Only class.Colons) refl a not_colons)
-        (First.free_IsAssumes law sort.Identifier refl a not_name) (First.free_IsAssumes law (sort.Only class.And) refl a not_and))
+      (rw (
+        long_begins w f a s,
+        fixes_read f (First.free_IsAssumes law (sort.Only class.Fixes) refl a not_fixes) (First.free_IsAssumes law (sort.Only class.Colons) refl a not_colons)
+            (First.free_IsAssumes law sort.Identifier refl a not_name) (First.free_IsAssumes law (sort.Only class.And) refl a not_and),
+      )
       (then_got (deep_assumes a) gs (VStatement.Long l xs gs p) (w ∷ ws) ys _ (assumes_read a not_assumes not_open not_term not_colon not_left not_and) (rw (s, R.prop_read law q o) refl)))
-

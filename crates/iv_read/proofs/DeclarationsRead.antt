@@ -28,18 +28,40 @@ module _ (law : Law) where
   unfolding D.fixity D.infix_parts D.binder_parts D.priorities then_
   fixity_read (C.plain h) = rw h refl
   fixity_read (C.prefix {s = s} h a n b m) =
-      rw (apart law (sort.Only class.Plain) (sort.Only class.Prefix) refl s.class h, apart law (sort.Only class.Infix) (sort.Only class.Prefix) refl s.class h,
-        apart law (sort.Only class.Infixl) (sort.Only class.Prefix) refl s.class h, apart law (sort.Only class.Infixr) (sort.Only class.Prefix) refl s.class h,
-        apart law (sort.Only class.Binder) (sort.Only class.Prefix) refl s.class h, h, a, n, b, m) refl
+      rw (
+        apart law (sort.Only class.Plain) (sort.Only class.Prefix) refl s.class h,
+        apart law (sort.Only class.Infix) (sort.Only class.Prefix) refl s.class h,
+        apart law (sort.Only class.Infixl) (sort.Only class.Prefix) refl s.class h,
+        apart law (sort.Only class.Infixr) (sort.Only class.Prefix) refl s.class h,
+        apart law (sort.Only class.Binder) (sort.Only class.Prefix) refl s.class h,
+        h,
+        a,
+        n,
+        b,
+        m,
+      ) refl
   fixity_read (C.infix_is {w = w} h s n) = rw (apart law (sort.Only class.Plain) (sort.Only class.Infix) refl w.class h, h, s, n) refl
   fixity_read (C.infixl_is {w = w} h s n) =
       rw (apart law (sort.Only class.Plain) (sort.Only class.Infixl) refl w.class h, apart law (sort.Only class.Infix) (sort.Only class.Infixl) refl w.class h, h, s, n) refl
   fixity_read (C.infixr_is {w = w} h s n) =
-      rw (apart law (sort.Only class.Plain) (sort.Only class.Infixr) refl w.class h, apart law (sort.Only class.Infix) (sort.Only class.Infixr) refl w.class h,
-        apart law (sort.Only class.Infixl) (sort.Only class.Infixr) refl w.class h, h, s, n) refl
+      rw (
+        apart law (sort.Only class.Plain) (sort.Only class.Infixr) refl w.class h,
+        apart law (sort.Only class.Infix) (sort.Only class.Infixr) refl w.class h,
+        apart law (sort.Only class.Infixl) (sort.Only class.Infixr) refl w.class h,
+        h,
+        s,
+        n,
+      ) refl
   fixity_read (C.binder {w = w} h s n) =
-      rw (apart law (sort.Only class.Plain) (sort.Only class.Binder) refl w.class h, apart law (sort.Only class.Infix) (sort.Only class.Binder) refl w.class h,
-        apart law (sort.Only class.Infixl) (sort.Only class.Binder) refl w.class h, apart law (sort.Only class.Infixr) (sort.Only class.Binder) refl w.class h, h, s, n) refl
+      rw (
+        apart law (sort.Only class.Plain) (sort.Only class.Binder) refl w.class h,
+        apart law (sort.Only class.Infix) (sort.Only class.Binder) refl w.class h,
+        apart law (sort.Only class.Infixl) (sort.Only class.Binder) refl w.class h,
+        apart law (sort.Only class.Infixr) (sort.Only class.Binder) refl w.class h,
+        h,
+        s,
+        n,
+      ) refl
 
   fix_read : {f : Fixity} {ts us : List Lexeme} → IsFix f ts us → begins (sort.Only class.Open) us ≡ false → D.fix ts ≡ got f us
   unfolding D.fix then_
@@ -54,7 +76,7 @@ module _ (law : Law) where
   const_begins (C.const x c t f) = x
 
   pub more_consts_read : {xs : List Constant} {ts us : List Lexeme} → IsMoreConsts xs ts us → begins (sort.Only class.Open) us ≡ false → begins sort.Identifier us ≡ false
-    → (found : List Constant) (steps : List Lexeme) → length ts ≤ length steps → many (begins sort.Identifier) D.constant found steps ts ≡ got (found ++ xs) us
+      → (found : List Constant) (steps : List Lexeme) → length ts ≤ length steps → many (begins sort.Identifier) D.constant found steps ts ≡ got (found ++ xs) us
   unfolding many then_
   more_consts_read {us = us} C.no_more_consts o e found steps b = many_stop _ _ found steps _ e ∙ ap (λ z. got z us) (sym (append-nil found))
   more_consts_read (C.more_consts d r) o e found [] b = absurd (omega (arith, b, len_IsConst d))
@@ -63,7 +85,7 @@ module _ (law : Law) where
       (more_consts_read r o e (found ++ y ∷ []) steps (omega (arith, b, len_IsConst d)) ∙ ap (λ z. got z vs) (append_assoc found (y ∷ []) ys))
 
   and_consts_read : {xs : List Constant} {ts us : List Lexeme} → IsAndConsts xs ts us → begins (sort.Only class.Open) us ≡ false → begins (sort.Only class.And) us ≡ false
-    → (found : List Constant) (steps : List Lexeme) → length ts ≤ length steps → many (begins (sort.Only class.And)) (λ us. D.constant (behind us)) found steps ts ≡ got (found ++ xs) us
+      → (found : List Constant) (steps : List Lexeme) → length ts ≤ length steps → many (begins (sort.Only class.And)) (λ us. D.constant (behind us)) found steps ts ≡ got (found ++ xs) us
   unfolding many then_
   and_consts_read {us = us} C.no_and_consts o e found steps b = many_stop _ _ found steps _ e ∙ ap (λ z. got z us) (sym (append-nil found))
   and_consts_read (C.and_consts a d r) o e found [] b = absurd (omega (arith, b))
@@ -72,14 +94,14 @@ module _ (law : Law) where
       (and_consts_read r o e (found ++ y ∷ []) steps (omega (arith, b, len_IsConst d)) ∙ ap (λ z. got z vs) (append_assoc found (y ∷ []) ys))
 
   pub axiom_consts_read : {xs : List Constant} {ts us : List Lexeme} → IsAxiomConsts xs ts us → begins sort.Identifier us ≡ false → begins (sort.Only class.Open) us ≡ false
-    → begins (sort.Only class.And) us ≡ false → D.axiom_consts ts ≡ got xs us
+      → begins (sort.Only class.And) us ≡ false → D.axiom_consts ts ≡ got xs us
   unfolding D.axiom_consts D.and_consts then_
   axiom_consts_read C.no_axiom_consts i o e = rw i refl
   axiom_consts_read (C.axiom_consts {x = y} {us = ws} d r) i o e =
       rw (const_begins d, const_read d (free_IsAndConsts law (sort.Only class.Open) refl r o), and_consts_read r o e (y ∷ []) ws (omega (arith))) refl
 
   more_tvars_read : {xs : List Token} {ts us : List Lexeme} → IsMoreTvars xs ts us → begins (sort.Only class.Comma) us ≡ false
-    → (found : List Token) (steps : List Lexeme) → length ts ≤ length steps → many (begins (sort.Only class.Comma)) (λ us. D.tvar (behind us)) found steps ts ≡ got (found ++ xs) us
+      → (found : List Token) (steps : List Lexeme) → length ts ≤ length steps → many (begins (sort.Only class.Comma)) (λ us. D.tvar (behind us)) found steps ts ≡ got (found ++ xs) us
   unfolding many then_ D.tvar
   more_tvars_read {us = us} C.no_more_tvars e found steps b = many_stop _ _ found steps _ e ∙ ap (λ z. got z us) (sym (append-nil found))
   more_tvars_read (C.more_tvars c v r) e found [] b = absurd (omega (arith, b))
@@ -104,7 +126,7 @@ module _ (law : Law) where
   equation_read (C.equation p e t) = rw (p, e, t) refl
 
   more_equations_read : {xs : List Equation} {ts us : List Lexeme} → IsMoreEquations xs ts us → begins (sort.Only class.And) us ≡ false
-    → (found : List Equation) (steps : List Lexeme) → length ts ≤ length steps → many (begins (sort.Only class.And)) (λ us. D.equation (behind us)) found steps ts ≡ got (found ++ xs) us
+      → (found : List Equation) (steps : List Lexeme) → length ts ≤ length steps → many (begins (sort.Only class.And)) (λ us. D.equation (behind us)) found steps ts ≡ got (found ++ xs) us
   unfolding many then_
   more_equations_read {us = us} C.no_more_equations e found steps b = many_stop _ _ found steps _ e ∙ ap (λ z. got z us) (sym (append-nil found))
   more_equations_read (C.more_equations a d r) e found [] b = absurd (omega (arith, b))
@@ -112,6 +134,6 @@ module _ (law : Law) where
       rw (a, equation_read d) (more_equations_read r e (found ++ y ∷ []) steps (omega (arith, b, len_IsEquation d)) ∙ ap (λ z. got z vs) (append_assoc found (y ∷ []) ys))
 
   pub equations_read : {x : Equation} {xs : List Equation} {ts us vs : List Lexeme} → IsEquation x ts us → IsMoreEquations xs us vs → begins (sort.Only class.And) vs ≡ false
-    → (D.equation ts ≡ got x us) × (D.more_equations (x ∷ []) us ≡ got (x ∷ xs) vs)
+      → (D.equation ts ≡ got x us) × (D.more_equations (x ∷ []) us ≡ got (x ∷ xs) vs)
   unfolding D.more_equations
   equations_read {x = x} {us = us} d r e = (equation_read d, more_equations_read r e (x ∷ []) us (omega (arith)))

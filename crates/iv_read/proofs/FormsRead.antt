@@ -60,9 +60,9 @@ ClassLaw = (a b : Class) → same_class a b ≡ true → a ≡ b
 -- how methods are read
 pub record MethodLaw : Type 0 where
   pub one_read : {v : MethodText} {ts us : List Lexeme} (d : IsMethod v ts us) → begins (sort.Only class.Question) us ≡ false → begins (sort.Only class.Plus) us ≡ false → begins (sort.Only class.Left) us ≡ false
-    → M.a_method ts ≡ unless (deep_method d) v us
+      → M.a_method ts ≡ unless (deep_method d) v us
   pub opt_read : {v : Option MethodText} {ts us : List Lexeme} (d : IsOptMethod v ts us) → begins sort.Name us ≡ false → begins (sort.Only class.Minus) us ≡ false → begins (sort.Only class.Open) us ≡ false
-    → begins (sort.Only class.Question) us ≡ false → begins (sort.Only class.Plus) us ≡ false → begins (sort.Only class.Left) us ≡ false → M.opt_method ts ≡ unless (deep_opt_method d) v us
+      → begins (sort.Only class.Question) us ≡ false → begins (sort.Only class.Plus) us ≡ false → begins (sort.Only class.Left) us ≡ false → M.opt_method ts ≡ unless (deep_opt_method d) v us
 
 module _ (law : Law) (is : ClassLaw) (method : MethodLaw) where
   -- the word picks the form
@@ -110,10 +110,14 @@ module _ (law : Law) (is : ClassLaw) (method : MethodLaw) where
       let no_name : has sort.Identifier c.class ≡ false = apart law sort.Identifier (sort.Only class.Equal) refl c.class e in
       let no_and_ : has (sort.Only class.And) c.class ≡ false = apart law (sort.Only class.And) (sort.Only class.Equal) refl c.class e in
       let no_part : K.begins_part (c ∷ vs) ≡ false =
-          rw (apart law (sort.Only class.Methods) (sort.Only class.Equal) refl c.class e, apart law (sort.Only class.Uses) (sort.Only class.Equal) refl c.class e, apart law (sort.Only class.Declares) (sort.Only class.Equal) refl c.class e) refl in
-      rw (h, R.opt_for_read law g (First.free_IsParts law (sort.Only class.For) refl refl refl q no_for) (First.free_IsParts law (sort.Only class.Colons) refl refl refl q no_colons)
-          (First.free_IsParts law sort.Identifier refl refl refl q no_name) (First.free_IsParts law (sort.Only class.And) refl refl refl q no_and_),
-        NR.parts_read law q no_name no_part, e)
+      rw (apart law (sort.Only class.Methods) (sort.Only class.Equal) refl c.class e, apart law (sort.Only class.Uses) (sort.Only class.Equal) refl c.class e, apart law (sort.Only class.Declares) (sort.Only class.Equal) refl c.class e) refl in
+      rw (
+        h,
+        R.opt_for_read law g (First.free_IsParts law (sort.Only class.For) refl refl refl q no_for) (First.free_IsParts law (sort.Only class.Colons) refl refl refl q no_colons)
+            (First.free_IsParts law sort.Identifier refl refl refl q no_name) (First.free_IsParts law (sort.Only class.And) refl refl refl q no_and_),
+        NR.parts_read law q no_name no_part,
+        e,
+      )
       (then_got (deep_method d) m (VBody.Method x.token gs p m) [] [] _ (method.one_read d refl refl refl) refl)
 
   define_read : (x : Lexeme) {h b : Lexeme} {t : Option Token} {l : Option Label} {ts us : List Lexeme} → Is sort.Identifier x → PF.IsOfType t ts (h ∷ us) → IsA class.Where h → (d : IsOptLabel l us (b ∷ [])) → Is sort.Term b → W.define (x ∷ ts) ≡ unless (deep_opt_label d) (VBody.Define x.token t l b.token) []

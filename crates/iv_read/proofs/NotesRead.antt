@@ -66,7 +66,7 @@ twice (Some p) q r s = refl
 
 module _ (law : Law) where
   parts_from : {q : Parts} {ts us : List Lexeme} → IsParts q ts us → begins sort.Identifier us ≡ false → K.begins_part us ≡ false → (p : Parts) (steps : List Lexeme) → length ts ≤ length steps
-    → fold K.begins_part K.part p steps ts ≡ got (merged p q) us
+      → fold K.begins_part K.part p steps ts ≡ got (merged p q) us
   unfolding fold then_ K.part K.begins_part
   parts_from {us = us} C.no_parts i e p steps b = fold_stop K.begins_part K.part p steps us e
   parts_from (C.methods_part w x xs r z) i e p [] b = absurd (omega (arith, b))
@@ -79,8 +79,12 @@ module _ (law : Law) where
       rw (apart law (sort.Only class.Methods) (sort.Only class.Uses) refl v.class w, w, R.some_of_read law sort.Identifier y x xs (First.free_IsParts law sort.Identifier refl refl refl r i))
       (rw (parts_from r i e (record { methods = p.methods; uses = y.token ∷ ys; declares = p.declares }) steps (omega (arith, b, len_AreAll xs)), z) refl)
   parts_from (C.declares_part {w = v} {x = y} {xs = ys} {p = q} w x xs r z) i e p (_ ∷ steps) b =
-      rw (apart law (sort.Only class.Methods) (sort.Only class.Declares) refl v.class w, apart law (sort.Only class.Uses) (sort.Only class.Declares) refl v.class w, w,
-        R.some_of_read law sort.Identifier y x xs (First.free_IsParts law sort.Identifier refl refl refl r i))
+      rw (
+        apart law (sort.Only class.Methods) (sort.Only class.Declares) refl v.class w,
+        apart law (sort.Only class.Uses) (sort.Only class.Declares) refl v.class w,
+        w,
+        R.some_of_read law sort.Identifier y x xs (First.free_IsParts law sort.Identifier refl refl refl r i),
+      )
       (rw (parts_from r i e (record { methods = p.methods; uses = p.uses; declares = y.token ∷ ys }) steps (omega (arith, b, len_AreAll xs)), z) refl)
 
   pub parts_read : {q : Parts} {ts us : List Lexeme} → IsParts q ts us → begins sort.Identifier us ≡ false → K.begins_part us ≡ false → K.parts ts ≡ got q us
@@ -125,7 +129,7 @@ module _ (law : Law) where
   next_noted_read d o l = rw (First.free_IsFact law (sort.Only class.And) refl d) (FR.a_fact_read law d o l)
 
   more_noted_read : {fs : List Fact} {ts us : List Lexeme} (q : Option Pos) (d : IsMoreFacts fs ts us) → begins (sort.Only class.Open) us ≡ false → begins (sort.Only class.Left) us ≡ false → begins (sort.Only class.Equal) us ≡ false
-    → Tail us q → (found : List Fact) (steps : List Lexeme) → length ts ≤ length steps → many K.goes_noted K.next_noted found steps ts ≡ unless (first_of (deep_more_facts d) q) (found ++ fs) us
+      → Tail us q → (found : List Fact) (steps : List Lexeme) → length ts ≤ length steps → many K.goes_noted K.next_noted found steps ts ≡ unless (first_of (deep_more_facts d) q) (found ++ fs) us
   unfolding many unless then_ K.goes_noted
   more_noted_read {us = us} None FF.no_more_facts o l e (stops g) found steps b = many_stop K.goes_noted K.next_noted found steps us g ∙ ap (λ z. got z us) (sym (append-nil found))
   more_noted_read {us = []} (Some p) FF.no_more_facts o l e (sinks r g n) found [] b = let bad : false ≡ true = g in cc
@@ -136,22 +140,22 @@ module _ (law : Law) where
   more_noted_read q (FF.more_facts {f = f} {fs = fs} {us = us} {vs = vs} d r) o l e t found (_ ∷ steps) b =
       rw (goes_on d)
       (then_unless (deep_fact d) (first_of (deep_more_facts r) q) f _ us vs _ (next_noted_read d (First.free_IsMoreFacts law (sort.Only class.Open) refl refl r o) (First.free_IsMoreFacts law (sort.Only class.Left) refl refl r l))
-        (more_noted_read q r o l e t (found ++ f ∷ []) steps (omega (arith, b, len_IsFact d)) ∙ ap (λ z. unless (first_of (deep_more_facts r) q) z vs) (append_assoc found (f ∷ []) fs))
+      (more_noted_read q r o l e t (found ++ f ∷ []) steps (omega (arith, b, len_IsFact d)) ∙ ap (λ z. unless (first_of (deep_more_facts r) q) z vs) (append_assoc found (f ∷ []) fs))
       ∙ ap (λ z. unless z (found ++ f ∷ fs) vs) (sym (first_assoc (deep_fact d) (deep_more_facts r) q)))
   more_noted_read q (FF.and_facts {a = w} {f = f} {fs = fs} {ts = ts} {us = us} {vs = vs} a d r) o l e t found (_ ∷ steps) b =
       let left : begins (sort.Only class.Left) us ≡ false = First.free_IsMoreFacts law (sort.Only class.Left) refl refl r l in
       let equal : begins (sort.Only class.Equal) us ≡ false = First.free_IsMoreFacts law (sort.Only class.Equal) refl refl r e in
       rw (and_goes w ts a (no_note d left equal))
       (then_unless (deep_fact d) (first_of (deep_more_facts r) q) f _ us vs _ (and_next w ts a ∙ FR.a_fact_read law d (First.free_IsMoreFacts law (sort.Only class.Open) refl refl r o) left)
-        (more_noted_read q r o l e t (found ++ f ∷ []) steps (omega (arith, b, len_IsFact d)) ∙ ap (λ z. unless (first_of (deep_more_facts r) q) z vs) (append_assoc found (f ∷ []) fs))
+      (more_noted_read q r o l e t (found ++ f ∷ []) steps (omega (arith, b, len_IsFact d)) ∙ ap (λ z. unless (first_of (deep_more_facts r) q) z vs) (append_assoc found (f ∷ []) fs))
       ∙ ap (λ z. unless z (found ++ f ∷ fs) vs) (sym (first_assoc (deep_fact d) (deep_more_facts r) q)))
 
   noted_read : {fs : List Fact} {ts us : List Lexeme} (q : Option Pos) (d : IsFacts fs ts us) → begins (sort.Only class.Open) us ≡ false → begins (sort.Only class.Left) us ≡ false → begins (sort.Only class.Equal) us ≡ false
-    → Tail us q → K.noted ts ≡ unless (first_of (deep_facts d) q) fs us
+      → Tail us q → K.noted ts ≡ unless (first_of (deep_facts d) q) fs us
   unfolding K.noted K.more_noted
   noted_read q (FF.facts {f = f} {fs = fs} {us = us} {vs = vs} d r) o l e t =
       then_unless (deep_fact d) (first_of (deep_more_facts r) q) f (f ∷ fs) us vs _ (FR.a_fact_read law d (First.free_IsMoreFacts law (sort.Only class.Open) refl refl r o) (First.free_IsMoreFacts law (sort.Only class.Left) refl refl r l))
-        (more_noted_read q r o l e t (f ∷ []) us (omega (arith)))
+      (more_noted_read q r o l e t (f ∷ []) us (omega (arith)))
       ∙ ap (λ z. unless z (f ∷ fs) vs) (sym (first_assoc (deep_fact d) (deep_more_facts r) q))
 
   -- the place of a group's name, where it is too deep
@@ -165,7 +169,7 @@ module _ (law : Law) where
 
   -- what stands behind the facts of a group: another group, or the end
   named_tail : (w n c : Lexeme) {xs : List Att} {ts us : List Lexeme} (q : Option Pos) → IsA class.And w → Is sort.Name n → (a : IsOptAtts xs ts (c ∷ us)) → IsA class.Equal c → q ≡ deep_at (n ∷ ts) (opt_atts_levels a)
-    → P.named_atts (n ∷ ts) ≡ unless q (record { name = n.token; atts = xs }) (c ∷ us) → Tail (w ∷ n ∷ ts) q
+      → P.named_atts (n ∷ ts) ≡ unless q (record { name = n.token; atts = xs }) (c ∷ us) → Tail (w ∷ n ∷ ts) q
   unfolding K.goes_noted K.next_noted K.begins_note K.note_name unless then_
   named_tail w n c None a h xs e z g = stops (rw (apart law sort.Name (sort.Only class.And) refl w.class a, a, g, e) refl)
   named_tail w n c {ts = ts} (Some p) a h xs e z g =
@@ -178,39 +182,39 @@ module _ (law : Law) where
       named_tail w n c (deep_at (n ∷ ts) (opt_atts_levels xs)) a h xs e refl (R.named_atts_read law n h xs (apart law (sort.Only class.Left) (sort.Only class.Equal) refl c.class e))
 
   note_group_read : {g : NoteGroup} {ts us : List Lexeme} (q : Option Pos) (d : IsNoteGroup g ts us) → begins (sort.Only class.Open) us ≡ false → begins (sort.Only class.Left) us ≡ false → begins (sort.Only class.Equal) us ≡ false
-    → Tail us q → K.note_group ts ≡ unless (first_of (deep_note_group d) q) g us
+      → Tail us q → K.note_group ts ≡ unless (first_of (deep_note_group d) q) g us
   unfolding K.note_group K.note_name then_
   note_group_read q (C.note_group {n = n} {e = c} {xs = xs} {fs = fs} {ts = ts} {us = us} {vs = vs} h a e f) o l k t =
       let left : has (sort.Only class.Left) c.class ≡ false = apart law (sort.Only class.Left) (sort.Only class.Equal) refl c.class e in
       then_unless (deep_at (n ∷ ts) (opt_atts_levels a)) (first_of (deep_facts f) q) (record { name = n.token; atts = xs }) (record { name = Some n.token; atts = xs; facts = fs }) us vs _
-        (then_got (deep_at (n ∷ ts) (opt_atts_levels a)) (record { name = n.token; atts = xs }) (record { name = n.token; atts = xs }) (c ∷ us) us _ (R.named_atts_read law n h a left) (rw e refl))
-        (then_got (first_of (deep_facts f) q) fs (record { name = Some n.token; atts = xs; facts = fs }) vs vs _ (noted_read q f o l k t) refl)
+      (then_got (deep_at (n ∷ ts) (opt_atts_levels a)) (record { name = n.token; atts = xs }) (record { name = n.token; atts = xs }) (c ∷ us) us _ (R.named_atts_read law n h a left) (rw e refl))
+      (then_got (first_of (deep_facts f) q) fs (record { name = Some n.token; atts = xs; facts = fs }) vs vs _ (noted_read q f o l k t) refl)
       ∙ ap (λ z. unless z (record { name = Some n.token; atts = xs; facts = fs }) vs) (sym (first_assoc (deep_at (n ∷ ts) (opt_atts_levels a)) (deep_facts f) q))
 
   more_notes_read : {gs : List NoteGroup} {ts us : List Lexeme} (d : IsMoreNotes gs ts us) → begins (sort.Only class.Open) us ≡ false → begins (sort.Only class.Left) us ≡ false → begins (sort.Only class.Equal) us ≡ false
-    → K.goes_noted us ≡ false → begins (sort.Only class.And) us ≡ false → (found : List NoteGroup) (steps : List Lexeme) → length ts ≤ length steps
-    → many (begins (sort.Only class.And)) (λ us. K.note_group (behind us)) found steps ts ≡ unless (deep_more_notes d) (found ++ gs) us
+      → K.goes_noted us ≡ false → begins (sort.Only class.And) us ≡ false → (found : List NoteGroup) (steps : List Lexeme) → length ts ≤ length steps
+      → many (begins (sort.Only class.And)) (λ us. K.note_group (behind us)) found steps ts ≡ unless (deep_more_notes d) (found ++ gs) us
   unfolding many unless
   more_notes_read {us = us} C.no_more_notes o l k g a found steps b = many_stop (begins (sort.Only class.And)) (λ us. K.note_group (behind us)) found steps us a ∙ ap (λ z. got z us) (sym (append-nil found))
   more_notes_read (C.more_notes h d r) o l k g a found [] b = absurd (omega (arith, b))
   more_notes_read (C.more_notes {g = x} {gs = xs} {us = us} {vs = vs} h d r) o l k g a found (_ ∷ steps) b =
       rw h
       (then_unless (first_of (deep_note_group d) (name_place r)) (deep_more_notes r) x _ us vs _
-        (note_group_read (name_place r) d (First.free_IsMoreNotes law (sort.Only class.Open) refl r o) (First.free_IsMoreNotes law (sort.Only class.Left) refl r l) (First.free_IsMoreNotes law (sort.Only class.Equal) refl r k) (notes_tail r g))
-        (more_notes_read r o l k g a (found ++ x ∷ []) steps (omega (arith, b, len_IsNoteGroup d)))
+      (note_group_read (name_place r) d (First.free_IsMoreNotes law (sort.Only class.Open) refl r o) (First.free_IsMoreNotes law (sort.Only class.Left) refl r l) (First.free_IsMoreNotes law (sort.Only class.Equal) refl r k) (notes_tail r g))
+      (more_notes_read r o l k g a (found ++ x ∷ []) steps (omega (arith, b, len_IsNoteGroup d)))
       ∙ (ap (λ z. unless z ((found ++ x ∷ []) ++ xs) vs) (name_first (deep_note_group d) r) ∙ ap (λ z. unless (first_of (deep_note_group d) (deep_more_notes r)) z vs) (append_assoc found (x ∷ []) xs)))
 
   -- a first group with a name: where the name is too deep, so is the fact of this name
   named_first : (n c : Lexeme) {xs : List Att} {fs : List Fact} {ts us vs : List Lexeme} (p q : Option Pos) (h : Is sort.Name n) (a : IsOptAtts xs ts (c ∷ us)) (e : IsA class.Equal c) (f : IsFacts fs us vs) → p ≡ deep_at (n ∷ ts) (opt_atts_levels a)
-    → P.named_atts (n ∷ ts) ≡ unless p (record { name = n.token; atts = xs }) (c ∷ us) → K.note_group (n ∷ ts) ≡ unless (first_of (first_of p (deep_facts f)) q) (record { name = Some n.token; atts = xs; facts = fs }) vs
-    → K.first_note (n ∷ ts) ≡ unless (first_of (first_of p (deep_facts f)) q) (record { name = Some n.token; atts = xs; facts = fs }) vs
+      → P.named_atts (n ∷ ts) ≡ unless p (record { name = n.token; atts = xs }) (c ∷ us) → K.note_group (n ∷ ts) ≡ unless (first_of (first_of p (deep_facts f)) q) (record { name = Some n.token; atts = xs; facts = fs }) vs
+      → K.first_note (n ∷ ts) ≡ unless (first_of (first_of p (deep_facts f)) q) (record { name = Some n.token; atts = xs; facts = fs }) vs
   unfolding K.first_note K.begins_note K.note_name K.noted unless then_
   named_first n c None q h a e f z g k = rw (g, e) k
   named_first n c {ts = ts} (Some p) q h a e f z g k =
       rw (g, FR.a_fact_read law (FF.fact {n = n} h FF.no_sels a) (apart law (sort.Only class.Open) (sort.Only class.Equal) refl c.class e) (apart law (sort.Only class.Left) (sort.Only class.Equal) refl c.class e), ← z) refl
 
   bare_first : {fs : List Fact} {ts us : List Lexeme} (q : Option Pos) (f : IsFacts fs ts us) → K.begins_note ts ≡ false → K.noted ts ≡ unless (first_of (deep_facts f) q) fs us
-    → K.first_note ts ≡ unless (first_of (deep_facts f) q) (record { name = None; atts = []; facts = fs }) us
+      → K.first_note ts ≡ unless (first_of (deep_facts f) q) (record { name = None; atts = []; facts = fs }) us
   unfolding K.first_note
   bare_first {fs = fs} {us = us} q f n e = rw n (then_got (first_of (deep_facts f) q) fs (record { name = None; atts = []; facts = fs }) us us _ e refl)
 
@@ -218,7 +222,7 @@ module _ (law : Law) where
   no_note_facts (FF.facts d r) l e = no_note d (First.free_IsMoreFacts law (sort.Only class.Left) refl refl r l) (First.free_IsMoreFacts law (sort.Only class.Equal) refl refl r e)
 
   pub notes_read : {gs : List NoteGroup} {ts us : List Lexeme} (d : IsNotes gs ts us) → begins (sort.Only class.Open) us ≡ false → begins (sort.Only class.Left) us ≡ false → begins (sort.Only class.Equal) us ≡ false
-    → K.goes_noted us ≡ false → begins (sort.Only class.And) us ≡ false → K.notes ts ≡ unless (deep_notes d) gs us
+      → K.goes_noted us ≡ false → begins (sort.Only class.And) us ≡ false → K.notes ts ≡ unless (deep_notes d) gs us
   unfolding K.notes K.more_notes
   notes_read (C.named_notes {g = x} {gs = xs} {us = us} {vs = vs} (C.note_group {n = n} {e = c} {ts = ts} h a e f) r) o l k g b =
       let p : Option Pos = first_of (deep_at (n ∷ ts) (opt_atts_levels a)) (deep_facts f) in
@@ -226,16 +230,16 @@ module _ (law : Law) where
       let left : begins (sort.Only class.Left) us ≡ false = First.free_IsMoreNotes law (sort.Only class.Left) refl r l in
       let equal : begins (sort.Only class.Equal) us ≡ false = First.free_IsMoreNotes law (sort.Only class.Equal) refl r k in
       then_unless (first_of p (name_place r)) (deep_more_notes r) x (x ∷ xs) us vs _
-        (named_first n c (deep_at (n ∷ ts) (opt_atts_levels a)) (name_place r) h a e f refl (R.named_atts_read law n h a (apart law (sort.Only class.Left) (sort.Only class.Equal) refl c.class e))
-          (note_group_read (name_place r) (C.note_group h a e f) open_ left equal (notes_tail r g)))
-        (more_notes_read r o l k g b (x ∷ []) us (omega (arith)))
+      (named_first n c (deep_at (n ∷ ts) (opt_atts_levels a)) (name_place r) h a e f refl (R.named_atts_read law n h a (apart law (sort.Only class.Left) (sort.Only class.Equal) refl c.class e))
+      (note_group_read (name_place r) (C.note_group h a e f) open_ left equal (notes_tail r g)))
+      (more_notes_read r o l k g b (x ∷ []) us (omega (arith)))
       ∙ ap (λ z. unless z (x ∷ xs) vs) (name_first p r)
   notes_read (C.bare_notes {fs = fs} {gs = xs} {us = us} {vs = vs} f r) o l k g b =
       let left : begins (sort.Only class.Left) us ≡ false = First.free_IsMoreNotes law (sort.Only class.Left) refl r l in
       let equal : begins (sort.Only class.Equal) us ≡ false = First.free_IsMoreNotes law (sort.Only class.Equal) refl r k in
       then_unless (first_of (deep_facts f) (name_place r)) (deep_more_notes r) (record { name = None; atts = []; facts = fs }) (record { name = None; atts = []; facts = fs } ∷ xs) us vs _
-        (bare_first (name_place r) f (no_note_facts f left equal) (noted_read (name_place r) f (First.free_IsMoreNotes law (sort.Only class.Open) refl r o) left equal (notes_tail r g)))
-        (more_notes_read r o l k g b (record { name = None; atts = []; facts = fs } ∷ []) us (omega (arith)))
+      (bare_first (name_place r) f (no_note_facts f left equal) (noted_read (name_place r) f (First.free_IsMoreNotes law (sort.Only class.Open) refl r o) left equal (notes_tail r g)))
+      (more_notes_read r o l k g b (record { name = None; atts = []; facts = fs } ∷ []) us (omega (arith)))
       ∙ ap (λ z. unless z (record { name = None; atts = []; facts = fs } ∷ xs) vs) (name_first (deep_facts f) r)
 
   -- no `::` and no `where` behind the names and `and` with which propositions begin
@@ -328,10 +332,13 @@ module _ (law : Law) where
   ahead_vars (PF.vars g r) e = ahead_var_group g (ahead_more_vars r e)
 
   pub obtained_read : {o : Obtained} {ts us : List Lexeme} (d : IsObtained o ts us) → K.names_ahead us ≡ false → begins (sort.Only class.Open) us ≡ false → begins sort.Term us ≡ false → begins (sort.Only class.Colon) us ≡ false
-    → begins (sort.Only class.Left) us ≡ false → begins (sort.Only class.And) us ≡ false → K.obtained ts ≡ unless (deep_obtained d) o us
+      → begins (sort.Only class.Left) us ≡ false → begins (sort.Only class.And) us ≡ false → K.obtained ts ≡ unless (deep_obtained d) o us
   unfolding K.obtained then_
   obtained_read (C.obtained_props {gs = gs} {us = us} d) n o t c e a = rw (ahead_props d n) (then_got (deep_obtained (C.obtained_props d)) gs (record { names = []; props = gs }) us us _ (R.props_read law d o t c e a) refl)
   obtained_read (C.obtained_names {xs = xs} {w = v} {gs = gs} {us = us} {vs = vs} x w d) n o t c e a =
-      rw (ahead_vars x (ahead_where v us w),
-        R.vars_read law x (apart law (sort.Only class.Colons) (sort.Only class.Where) refl v.class w) (apart law sort.Identifier (sort.Only class.Where) refl v.class w) (apart law (sort.Only class.And) (sort.Only class.Where) refl v.class w), w)
+      rw (
+        ahead_vars x (ahead_where v us w),
+        R.vars_read law x (apart law (sort.Only class.Colons) (sort.Only class.Where) refl v.class w) (apart law sort.Identifier (sort.Only class.Where) refl v.class w) (apart law (sort.Only class.And) (sort.Only class.Where) refl v.class w),
+        w,
+      )
       (then_got (deep_obtained (C.obtained_names x w d)) gs (record { names = xs; props = gs }) vs vs _ (R.props_read law d o t c e a) refl)

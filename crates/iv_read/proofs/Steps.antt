@@ -62,7 +62,7 @@ module _ {A : Type 0} (goes : List Lexeme → Bool) (item : List Lexeme → Foun
 module _ {A : Type 0} (goes : List Lexeme → Bool) (part : A → List Lexeme → Found A) where
   -- one more part
   pub fold_next : (start : Found A) (x y : A) (steps ts us : List Lexeme) (i : ℕ) → start ≡ fold goes part x (drop i steps) ts
-    → i < length steps → goes ts ≡ true → part x ts ≡ got y us → start ≡ fold goes part y (drop (i + 1) steps) us
+      → i < length steps → goes ts ≡ true → part x ts ≡ got y us → start ≡ fold goes part y (drop (i + 1) steps) us
   unfolding fold then_
   fold_next start x y steps ts us i s b g h = rw (s, (left_over steps i b).1, g, h, add-one i) refl
 

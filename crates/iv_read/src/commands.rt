@@ -8,7 +8,9 @@ use crate::facts::a_fact;
 use crate::props::{Named, named_atts, opt_label, prop, props, some_of, text_of, vars};
 use crate::stop::Stop;
 use crate::tokens::{begins, behind, one};
-use iv_forms::{Axiom, Fact, Group, Items, Lexeme, NoteGroup, Obtained, Parts, Statement, VarGroup};
+use iv_forms::{
+    Axiom, Fact, Group, Items, Lexeme, NoteGroup, Obtained, Parts, Statement, VarGroup,
+};
 use iv_gram::{Class, Sort};
 use std::alloc::Global;
 
@@ -31,7 +33,11 @@ fn an_axiom(alloc: Global, tokens: &[Lexeme]) -> Result<(Axiom, &[Lexeme]), Stop
 
 /// Further axioms, each behind `and`.
 #[tactic(auto, using(crate::proofs::Steps::many_next, crate::proofs::Steps::many_stop, crate::proofs::Steps::many_end, crate::proofs::Steps::many_stopped), unfolding(crate::specs::Commands::more_axioms))]
-fn more_axioms<'a>(alloc: Global, tokens: &'a [Lexeme], found: &mut Items<Axiom>) -> Result<&'a [Lexeme], Stop>
+fn more_axioms<'a>(
+    alloc: Global,
+    tokens: &'a [Lexeme],
+    found: &mut Items<Axiom>,
+) -> Result<&'a [Lexeme], Stop>
     ensures ok { IfOk result (λ r. more_axioms found.old tokens.now ≡ got found.new r.now) }
     ensures err { IfErr result (λ e. IsStop e (more_axioms found.old tokens.now)) }
 {
@@ -241,7 +247,11 @@ fn next_noted(alloc: Global, tokens: &[Lexeme]) -> Result<(Fact, &[Lexeme]), Sto
 
 /// Further facts of a note.
 #[tactic(auto, using(crate::proofs::Steps::many_next, crate::proofs::Steps::many_stop, crate::proofs::Steps::many_end, crate::proofs::Steps::many_stopped), unfolding(crate::specs::Commands::more_noted))]
-fn more_noted<'a>(alloc: Global, tokens: &'a [Lexeme], found: &mut Items<Fact>) -> Result<&'a [Lexeme], Stop>
+fn more_noted<'a>(
+    alloc: Global,
+    tokens: &'a [Lexeme],
+    found: &mut Items<Fact>,
+) -> Result<&'a [Lexeme], Stop>
     ensures ok { IfOk result (λ r. more_noted found.old tokens.now ≡ got found.new r.now) }
     ensures err { IfErr result (λ e. IsStop e (more_noted found.old tokens.now)) }
 {
@@ -306,7 +316,11 @@ fn first_note(alloc: Global, tokens: &[Lexeme]) -> Result<(NoteGroup, &[Lexeme])
 
 /// Further groups of facts, each behind `and`.
 #[tactic(auto, using(crate::proofs::Steps::many_next, crate::proofs::Steps::many_stop, crate::proofs::Steps::many_end, crate::proofs::Steps::many_stopped), unfolding(crate::specs::Commands::more_notes))]
-fn more_notes<'a>(alloc: Global, tokens: &'a [Lexeme], found: &mut Items<NoteGroup>) -> Result<&'a [Lexeme], Stop>
+fn more_notes<'a>(
+    alloc: Global,
+    tokens: &'a [Lexeme],
+    found: &mut Items<NoteGroup>,
+) -> Result<&'a [Lexeme], Stop>
     ensures ok { IfOk result (λ r. more_notes found.old tokens.now ≡ got found.new r.now) }
     ensures err { IfErr result (λ e. IsStop e (more_notes found.old tokens.now)) }
 {
@@ -343,7 +357,8 @@ fn names_ahead(tokens: &[Lexeme]) -> bool
         if Sort::Identifier.has(token.class) || Sort::Only(Class::And).has(token.class) {
             continue;
         }
-        return Sort::Only(Class::Colons).has(token.class) || Sort::Only(Class::Where).has(token.class);
+        return Sort::Only(Class::Colons).has(token.class)
+            || Sort::Only(Class::Where).has(token.class);
     }
     false
 }

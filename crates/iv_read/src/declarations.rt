@@ -125,7 +125,10 @@ pub(crate) fn constant(tokens: &[Lexeme]) -> Result<(Constant, &[Lexeme]), Stop>
 
 /// Further constants behind those that are there.
 #[tactic(auto, using(crate::proofs::Steps::many_next, crate::proofs::Steps::many_stop, crate::proofs::Steps::many_end, crate::proofs::Steps::many_stopped), unfolding(crate::specs::Declarations::more_consts))]
-pub(crate) fn more_consts<'a>(tokens: &'a [Lexeme], found: &mut Items<Constant>) -> Result<&'a [Lexeme], Stop>
+pub(crate) fn more_consts<'a>(
+    tokens: &'a [Lexeme],
+    found: &mut Items<Constant>,
+) -> Result<&'a [Lexeme], Stop>
     ensures ok { IfOk result (λ r. more_consts found.old tokens.now ≡ got found.new r.now) }
     ensures err { IfErr result (λ e. IsStop e (more_consts found.old tokens.now)) }
 {
@@ -161,7 +164,10 @@ fn and_consts<'a>(tokens: &'a [Lexeme], found: &mut Items<Constant>) -> Result<&
 
 /// The constants of `axiomatization`, or none.
 #[tactic(auto, using(crate::proofs::Steps::stopped, crate::proofs::Steps::went_on), unfolding(crate::specs::Declarations::axiom_consts, crate::specs::Found::then_))]
-pub(crate) fn axiom_consts(alloc: Global, tokens: &[Lexeme]) -> Result<(Items<Constant>, &[Lexeme]), Stop>
+pub(crate) fn axiom_consts(
+    alloc: Global,
+    tokens: &[Lexeme],
+) -> Result<(Items<Constant>, &[Lexeme]), Stop>
     ensures ok { IfOk result (λ r. axiom_consts tokens.now ≡ got r.0 r.1.now) }
     ensures err { IfErr result (λ e. IsStop e (axiom_consts tokens.now)) }
 {
@@ -262,7 +268,10 @@ pub(crate) fn equation(tokens: &[Lexeme]) -> Result<(Equation, &[Lexeme]), Stop>
 
 /// Further equations, each behind `and`.
 #[tactic(auto, using(crate::proofs::Steps::many_next, crate::proofs::Steps::many_stop, crate::proofs::Steps::many_end, crate::proofs::Steps::many_stopped), unfolding(crate::specs::Declarations::more_equations))]
-pub(crate) fn more_equations<'a>(tokens: &'a [Lexeme], found: &mut Items<Equation>) -> Result<&'a [Lexeme], Stop>
+pub(crate) fn more_equations<'a>(
+    tokens: &'a [Lexeme],
+    found: &mut Items<Equation>,
+) -> Result<&'a [Lexeme], Stop>
     ensures ok { IfOk result (λ r. more_equations found.old tokens.now ≡ got found.new r.now) }
     ensures err { IfErr result (λ e. IsStop e (more_equations found.old tokens.now)) }
 {

@@ -8,7 +8,9 @@ ghost use Rattle.iv_read.specs.Commands.{statement};
 ghost use Rattle.iv_read.specs.Forms.{theory, typedecl, consts, judgment, axiomatization, lemmas, method_definition, define, let_, by, text_body, facts_body, claim_body, statement_body, word_body, kind_of, declaration_form, context_form, proof_form, by_class, form};
 
 use crate::commands::{axioms, note_name, notes, obtained, parts, statement};
-use crate::declarations::{axiom_consts, constant, equation, judgment_form, more_consts, more_equations, some_nat, tvars};
+use crate::declarations::{
+    axiom_consts, constant, equation, judgment_form, more_consts, more_equations, some_nat, tvars,
+};
 use crate::facts::facts;
 use crate::methods::{a_method, opt_method};
 use crate::props::{claim, of_type, opt_for, opt_label, props, some_of, text_of, vars};
@@ -292,7 +294,11 @@ fn context_form(alloc: Global, class: Class, tokens: &[Lexeme]) -> Result<(Body,
 
 /// A declaration, behind its word.
 #[tactic(auto, using(crate::proofs::Steps::stopped, crate::proofs::Steps::went_on), unfolding(crate::specs::Found::then_))]
-fn declaration_form(alloc: Global, class: Class, tokens: &[Lexeme]) -> Result<(Body, &[Lexeme]), Stop>
+fn declaration_form(
+    alloc: Global,
+    class: Class,
+    tokens: &[Lexeme],
+) -> Result<(Body, &[Lexeme]), Stop>
     ensures ok { IfOk result (λ r. declaration_form class tokens.now ≡ got r.0 r.1.now) }
     ensures err { IfErr result (λ e. IsStop e (declaration_form class tokens.now)) }
 {
@@ -372,14 +378,49 @@ fn kind_of(class: Class) -> CommandKind
     ensures { result ≡ kind_of class }
 {
     match class {
-        Class::Chapter | Class::Section | Class::Subsection | Class::Subsubsection | Class::Paragraph | Class::Subparagraph | Class::Prose | Class::Txt => CommandKind::Text,
+        Class::Chapter
+        | Class::Section
+        | Class::Subsection
+        | Class::Subsubsection
+        | Class::Paragraph
+        | Class::Subparagraph
+        | Class::Prose
+        | Class::Txt => CommandKind::Text,
         Class::Declare | Class::From | Class::With | Class::Using => CommandKind::Facts,
         Class::Have | Class::Show | Class::Hence | Class::Thus => CommandKind::Claim,
-        Class::Lemma | Class::Theorem | Class::Corollary | Class::Proposition => CommandKind::Statement,
-        Class::End | Class::LeftBrace | Class::RightBrace | Class::Next | Class::Then | Class::Also | Class::Moreover | Class::Finally | Class::Ultimately | Class::Back | Class::Dot | Class::Dots | Class::Done | Class::Oops => CommandKind::Word,
-        Class::Theory | Class::Typedecl | Class::Consts | Class::Judgment | Class::Axiomatization | Class::Lemmas | Class::NamedTheorems | Class::Method => CommandKind::Declaration,
-        Class::Fix | Class::Assume | Class::Presume | Class::Define | Class::Note | Class::Let | Class::Obtain => CommandKind::Context,
-        Class::Apply | Class::Defer | Class::Prefer | Class::Proof | Class::Qed | Class::By => CommandKind::Proof,
+        Class::Lemma | Class::Theorem | Class::Corollary | Class::Proposition =>
+            CommandKind::Statement,
+        Class::End
+        | Class::LeftBrace
+        | Class::RightBrace
+        | Class::Next
+        | Class::Then
+        | Class::Also
+        | Class::Moreover
+        | Class::Finally
+        | Class::Ultimately
+        | Class::Back
+        | Class::Dot
+        | Class::Dots
+        | Class::Done
+        | Class::Oops => CommandKind::Word,
+        Class::Theory
+        | Class::Typedecl
+        | Class::Consts
+        | Class::Judgment
+        | Class::Axiomatization
+        | Class::Lemmas
+        | Class::NamedTheorems
+        | Class::Method => CommandKind::Declaration,
+        Class::Fix
+        | Class::Assume
+        | Class::Presume
+        | Class::Define
+        | Class::Note
+        | Class::Let
+        | Class::Obtain => CommandKind::Context,
+        Class::Apply | Class::Defer | Class::Prefer | Class::Proof | Class::Qed | Class::By =>
+            CommandKind::Proof,
         _ => CommandKind::None,
     }
 }
