@@ -1,34 +1,25 @@
 -- Axioms, the parts of `method`, statements, notes and obtained names are read as the forms say.
-use Rattle.std.proofs.Common.{◌≡◌, ℕ, suc, ◌≤◌, Bool, true, false, ◌&&◌, ◌||◌, List, [], ◌∷◌, ◌++◌, length, refl, sym, ◌∙◌, arith, append_assoc, append-nil, ap}
-use Rattle.std.specs.Prelude.{Option, Some, None, not}
-use Rattle.iv_lex.specs.declared.cutting.Token.{Token}
+use Rattle.std.proofs.Common.{◌≡◌, ◌≤◌, true, false, List, [], ◌∷◌, ◌++◌, length, refl, sym, ◌∙◌, arith, append_assoc, append-nil, ap}
 use Rattle.iv_gram.specs.declared.class.Class.TheVariants as class
 use Rattle.iv_gram.specs.declared.class.Sort.TheVariants as sort
 use Rattle.iv_gram.specs.Class.{has}
-use Rattle.iv_forms.specs.declared.fact.Fact.{Fact}
-use Rattle.iv_forms.specs.declared.fact.Att.{Att}
 use Rattle.iv_forms.specs.declared.prop.Group.{Group}
 use Rattle.iv_forms.specs.declared.prop.VarGroup.{VarGroup}
 use Rattle.iv_forms.specs.declared.command.Axiom.{Axiom}
-use Rattle.iv_forms.specs.declared.command.Parts.{Parts}
 use Rattle.iv_forms.specs.declared.command.Statement.{Statement}
 use Rattle.iv_forms.specs.declared.command.Statement.TheVariants as VStatement
-use Rattle.iv_forms.specs.declared.command.NoteGroup.{NoteGroup}
-use Rattle.iv_forms.specs.declared.command.Obtained.{Obtained}
 use Rattle.iv_forms.specs.declared.lexeme.Lexeme.{Lexeme}
-use Rattle.iv_forms.specs.Lexeme.{Is, IsA}
-use Rattle.iv_forms.specs.FactForm.{IsOptAtts}
-use Rattle.iv_forms.specs.PropForm.{IsOptLabel}
+use Rattle.iv_forms.specs.Lexeme.{IsA}
 use Rattle.iv_forms.specs.CommandForm as C
 use Rattle.iv_forms.specs.CommandForm.{IsAxiom, IsMoreAxioms, IsAxioms, IsFixes, IsAssumes, IsStatement}
-use Rattle.iv_read.specs.Found.{Found, got, deep, then_, begins, behind, many}
-use Rattle.iv_read.specs.FactLevels.{opt_atts_levels, deep_at, first_of, deep_opt_label}
+use Rattle.iv_read.specs.Found.{got, then_, begins, behind, many}
+use Rattle.iv_read.specs.FactLevels.{opt_atts_levels, deep_at, deep_opt_label}
 use Rattle.iv_read.specs.CommandLevels.{deep_axiom, deep_more_axioms, deep_axioms, deep_assumes, deep_statement}
 use Rattle.iv_read.specs.Props as P
 use Rattle.iv_read.specs.Commands as K
-use Rattle.iv_read.proofs.Steps.{many_stop, went_on}
+use Rattle.iv_read.proofs.Steps.{many_stop}
 use Rattle.iv_read.proofs.Held.{unless, then_unless, then_got, or_so}
-use Rattle.iv_read.proofs.Sorts.{Law, apart, within}
+use Rattle.iv_read.proofs.Sorts.{Law, apart}
 use Rattle.iv_read.proofs.Lengths.{len_IsAxiom}
 use Rattle.iv_read.proofs.Firsts as First
 use Rattle.iv_read.proofs.PropsRead as R

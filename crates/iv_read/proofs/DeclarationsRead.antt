@@ -1,5 +1,5 @@
 -- Declarations are read as the forms say.
-use Rattle.std.proofs.Common.{◌≡◌, ℕ, suc, ◌≤◌, Bool, true, false, List, [], ◌∷◌, ◌++◌, length, refl, sym, ◌∙◌, arith, append_assoc, append-nil, ap}
+use Rattle.std.proofs.Common.{◌≡◌, ℕ, ◌≤◌, true, false, List, [], ◌∷◌, ◌++◌, length, refl, sym, ◌∙◌, arith, append_assoc, append-nil, ap}
 use Rattle.std.specs.Prelude.{Option}
 use Rattle.iv_lex.specs.declared.cutting.Token.{Token}
 use Rattle.iv_gram.specs.declared.class.Class.TheVariants as class
@@ -11,10 +11,10 @@ use Rattle.iv_forms.specs.declared.command.Equation.{Equation}
 use Rattle.iv_forms.specs.declared.lexeme.Lexeme.{Lexeme}
 use Rattle.iv_forms.specs.CommandForm as C
 use Rattle.iv_forms.specs.CommandForm.{IsSomeNat, IsFixity, IsFix, IsConst, IsMoreConsts, IsAndConsts, IsAxiomConsts, IsMoreTvars, IsTvars, IsJudgmentForm, IsEquation, IsMoreEquations}
-use Rattle.iv_read.specs.Found.{Found, got, then_, begins, behind, many}
+use Rattle.iv_read.specs.Found.{got, then_, begins, behind, many}
 use Rattle.iv_read.specs.Declarations as D
 use Rattle.iv_read.proofs.Steps.{many_stop}
-use Rattle.iv_read.proofs.Sorts.{Law, apart, within}
+use Rattle.iv_read.proofs.Sorts.{Law, apart}
 use Rattle.iv_read.proofs.Lengths.{len_IsConst, len_IsEquation}
 use Rattle.iv_read.proofs.Firsts.{free_IsMoreConsts, free_IsAndConsts}
 

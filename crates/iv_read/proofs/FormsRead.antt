@@ -1,5 +1,5 @@
 -- Commands are read as the forms say.
-use Rattle.std.proofs.Common.{◌≡◌, ℕ, Bool, true, false, ◌&&◌, ◌||◌, List, [], ◌∷◌, refl, sym, ◌∙◌, arith, ap}
+use Rattle.std.proofs.Common.{◌≡◌, ℕ, true, false, List, [], ◌∷◌, refl, sym, ◌∙◌, arith, ap}
 use Rattle.std.specs.Prelude.{Option, Some, None}
 use Rattle.iv_text.specs.declared.Pos.{Pos}
 use Rattle.iv_lex.specs.declared.cutting.Token.{Token}
@@ -31,8 +31,7 @@ use Rattle.iv_forms.specs.PropForm.{IsOptLabel}
 use Rattle.iv_forms.specs.MethodForm.{IsMethod, IsOptMethod}
 use Rattle.iv_forms.specs.CommandForm as C
 use Rattle.iv_forms.specs.CommandForm.{IsForm}
-use Rattle.iv_read.specs.declared.props.Named.{Named}
-use Rattle.iv_read.specs.Found.{Found, got, deep, then_, begins, one}
+use Rattle.iv_read.specs.Found.{got, then_, begins, one}
 use Rattle.iv_read.specs.FactLevels.{opt_atts_levels, deep_at, first_of, deep_facts, deep_opt_label, deep_claim, deep_props}
 use Rattle.iv_read.specs.MethodLevels.{deep_method, deep_opt_method}
 use Rattle.iv_read.specs.CommandLevels.{deep_axioms, deep_statement, deep_notes, deep_obtained}

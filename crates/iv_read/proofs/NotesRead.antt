@@ -1,6 +1,6 @@
 -- The parts of `method`, notes and obtained names are read as the forms say.
-use Rattle.std.proofs.Common.{◌≡◌, ℕ, suc, ◌≤◌, Bool, true, false, ◌&&◌, ◌||◌, List, [], ◌∷◌, ◌++◌, length, refl, sym, ◌∙◌, arith, append_assoc, append-nil, ap, inl, inr}
-use Rattle.std.specs.Prelude.{Option, Some, None, not, ◌⊎◌}
+use Rattle.std.proofs.Common.{◌≡◌, ◌≤◌, Bool, true, false, List, [], ◌∷◌, ◌++◌, length, refl, sym, ◌∙◌, arith, append_assoc, append-nil, ap}
+use Rattle.std.specs.Prelude.{Option, Some, None}
 use Rattle.iv_text.specs.declared.Pos.{Pos}
 use Rattle.iv_lex.specs.declared.cutting.Token.{Token}
 use Rattle.iv_gram.specs.declared.class.Class.TheVariants as class
@@ -24,13 +24,13 @@ use Rattle.iv_forms.specs.PropForm.{IsLabel, IsOptLabel, IsPatterns, IsProp, IsM
 use Rattle.iv_forms.specs.CommandForm as C
 use Rattle.iv_forms.specs.CommandForm.{IsParts, IsNoteGroup, IsMoreNotes, IsNotes, IsObtained}
 use Rattle.iv_read.specs.declared.props.Named.{Named}
-use Rattle.iv_read.specs.Found.{Found, got, wrong, deep, then_, begins, behind, one, many, fold}
-use Rattle.iv_read.specs.FactLevels.{limit, opt_atts_levels, deep_at, first_of, deep_fact, deep_more_facts, deep_facts}
+use Rattle.iv_read.specs.Found.{got, wrong, deep, then_, begins, behind, one, many, fold}
+use Rattle.iv_read.specs.FactLevels.{opt_atts_levels, deep_at, first_of, deep_fact, deep_more_facts, deep_facts}
 use Rattle.iv_read.specs.CommandLevels.{deep_note_group, deep_more_notes, deep_notes, deep_obtained}
 use Rattle.iv_read.specs.Facts as F
 use Rattle.iv_read.specs.Props as P
 use Rattle.iv_read.specs.Commands as K
-use Rattle.iv_read.proofs.Steps.{many_stop, fold_stop, went_on}
+use Rattle.iv_read.proofs.Steps.{many_stop, fold_stop}
 use Rattle.iv_read.proofs.Held.{unless, then_unless, then_got, or_so}
 use Rattle.iv_read.proofs.Sorts.{Law, apart, within}
 use Rattle.iv_read.proofs.Lengths.{len_IsFact, len_AreAll, len_IsNoteGroup}

@@ -1,5 +1,5 @@
 -- The first part of a command that has too many levels. Of this project.
-use Rattle.std.specs.Prelude.{List, Option, Some, None, ◌∷◌}
+use Rattle.std.specs.Prelude.{List, Option, None}
 use Rattle.iv_text.specs.declared.Pos.{Pos}
 use Rattle.iv_forms.specs.declared.prop.Group.{Group}
 use Rattle.iv_forms.specs.declared.command.Axiom.{Axiom}

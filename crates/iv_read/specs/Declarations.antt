@@ -1,16 +1,14 @@
 -- How declarations are read. Of this project.
-use Rattle.std.specs.Prelude.{ℕ, List, [], ◌∷◌, Bool, ◌||◌, if◌then◌else◌, Option, Some, None}
+use Rattle.std.specs.Prelude.{ℕ, List, [], ◌∷◌, if◌then◌else◌, Option, Some, None}
 use Rattle.iv_lex.specs.declared.cutting.Token.{Token}
 use Rattle.iv_gram.specs.declared.class.Class.TheVariants as class
 use Rattle.iv_gram.specs.declared.class.Sort.TheVariants as sort
 use Rattle.iv_forms.specs.declared.command.Fixity.{Fixity}
 use Rattle.iv_forms.specs.declared.command.Fixity.TheVariants as VFixity
 use Rattle.iv_forms.specs.declared.command.Constant.{Constant}
-use Rattle.iv_forms.specs.declared.command.Axiom.{Axiom}
-use Rattle.iv_forms.specs.declared.command.Parts.{Parts}
 use Rattle.iv_forms.specs.declared.command.Equation.{Equation}
 use Rattle.iv_forms.specs.declared.lexeme.Lexeme.{Lexeme}
-use Rattle.iv_read.specs.Found.{Found, got, then_, begins, behind, one, many, fold}
+use Rattle.iv_read.specs.Found.{Found, got, then_, begins, behind, one, many}
 
 unfoldable pub some_nat : List Lexeme → Found (Option ℕ)
 some_nat ts = if begins sort.Numeral ts then then_ (one sort.Numeral ts) (λ n us. got (Some n.number) us) else got None ts

@@ -1,5 +1,5 @@
 -- Where the first part of a command begins that has too many levels. Of this project.
-use Rattle.std.specs.Prelude.{List, ◌∷◌, Option, Some, None}
+use Rattle.std.specs.Prelude.{List, ◌∷◌, Option, None}
 use Rattle.iv_text.specs.declared.Pos.{Pos}
 use Rattle.iv_forms.specs.declared.command.Body.{Body}
 use Rattle.iv_forms.specs.declared.lexeme.Lexeme.{Lexeme}

@@ -1,31 +1,20 @@
 -- How commands are read. Of this project.
-use Rattle.std.specs.Prelude.{ℕ, List, [], ◌∷◌, Bool, true, false, not, ◌&&◌, ◌||◌, if◌then◌else◌, Option, Some, None}
+use Rattle.std.specs.Prelude.{List, [], ◌∷◌}
 use Rattle.iv_lex.specs.declared.cutting.Token.{Token}
 use Rattle.iv_gram.specs.declared.class.Class.{Class}
 use Rattle.iv_gram.specs.declared.class.Class.TheVariants as class
 use Rattle.iv_gram.specs.declared.class.Sort.TheVariants as sort
-use Rattle.iv_gram.specs.Class.{has}
 use Rattle.iv_forms.specs.declared.fact.Fact.{Fact}
-use Rattle.iv_forms.specs.declared.prop.Label.{Label}
 use Rattle.iv_forms.specs.declared.prop.Claim.{Claim}
-use Rattle.iv_forms.specs.declared.prop.Group.{Group}
-use Rattle.iv_forms.specs.declared.prop.VarGroup.{VarGroup}
-use Rattle.iv_forms.specs.declared.method.MethodText.{MethodText}
-use Rattle.iv_forms.specs.declared.command.Axiom.{Axiom}
-use Rattle.iv_forms.specs.declared.command.Parts.{Parts}
 use Rattle.iv_forms.specs.declared.command.Statement.{Statement}
-use Rattle.iv_forms.specs.declared.command.Statement.TheVariants as VStatement
-use Rattle.iv_forms.specs.declared.command.NoteGroup.{NoteGroup}
-use Rattle.iv_forms.specs.declared.command.Obtained.{Obtained}
 use Rattle.iv_forms.specs.declared.command.Body.{Body}
 use Rattle.iv_forms.specs.declared.command.Body.TheVariants as VBody
 use Rattle.iv_forms.specs.declared.lexeme.Lexeme.{Lexeme}
-use Rattle.iv_read.specs.declared.props.Named.{Named}
 use Rattle.iv_read.specs.declared.forms.CommandKind.{CommandKind}
 use Rattle.iv_read.specs.declared.forms.CommandKind.TheVariants as kind
-use Rattle.iv_read.specs.Found.{Found, got, wrong, deep, then_, begins, behind, one, many, fold}
-use Rattle.iv_read.specs.Facts.{a_fact, facts}
-use Rattle.iv_read.specs.Props.{text_of, some_of, more_of, named_atts, opt_label, prop, claim, props, of_type, vars, opt_for}
+use Rattle.iv_read.specs.Found.{Found, got, wrong, then_, one}
+use Rattle.iv_read.specs.Facts.{facts}
+use Rattle.iv_read.specs.Props.{text_of, some_of, opt_label, claim, props, of_type, vars, opt_for}
 use Rattle.iv_read.specs.Methods.{a_method, opt_method}
 use Rattle.iv_read.specs.Commands.{statement, notes, obtained, parts, axioms, note_name}
 use Rattle.iv_read.specs.Declarations.{some_nat, constant, more_consts, axiom_consts, tvars, judgment_form, equation, more_equations}

@@ -2,7 +2,7 @@ use Rattle.std.proofs.Common.{◌≡◌, drop}
 use Rattle.iv_gram.specs.declared.class.Class.TheVariants as class
 use Rattle.iv_gram.specs.declared.class.Sort.TheVariants as sort
 use Rattle.iv_read.specs.Found.{begins, behind, many}
-use Rattle.iv_read.specs.Declarations.{constant, tvar, equation, more_consts, and_consts, more_tvars, more_equations}
+use Rattle.iv_read.specs.Declarations.{constant, and_consts}
 use Rattle.iv_read.proofs.declarations.and_consts.Given as goal
 
 abbrev pub invariant-loop-step : goal.invariant-loop-step
