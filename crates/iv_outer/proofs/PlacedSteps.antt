@@ -1,6 +1,6 @@
 -- The place of a refusal is one of the piece's tokens.
-use Rattle.std.proofs.Common.{◌≡◌, ℕ, zero, suc, ◌<◌, List, [], ◌∷◌, ◌++◌, length, map, Bool, true, false, refl, sym, ◌∙◌, arith, inl, inr, length-append}
-use Rattle.std.specs.Prelude.{Some, ◌⊎◌, ◌&&◌, if◌then◌else◌, nat_lt, encode_utf8_all}
+use Rattle.std.proofs.Common.{◌≡◌, ℕ, zero, suc, ◌<◌, List, [], ◌∷◌, ◌++◌, length, map, Bool, true, false, refl, arith, inl, inr, length-append}
+use Rattle.std.specs.Prelude.{Some, ◌⊎◌, if◌then◌else◌, nat_lt, encode_utf8_all}
 use Rattle.iv_text.specs.declared.Pos.{Pos}
 use Rattle.iv_lex.specs.declared.cutting.Token.{Token}
 use Rattle.iv_lex.specs.Token.{tokens_of}
@@ -14,7 +14,7 @@ use Rattle.iv_read.specs.Found.{IsAmong}
 use Rattle.iv_outer.specs.declared.reading.Reading.{Reading}
 use Rattle.iv_outer.specs.declared.reading.Reading.TheVariants as reading
 use Rattle.iv_outer.specs.Classify.{lexeme_of}
-use Rattle.iv_outer.specs.Opened.{placed, bracket, inside, is_case, opened_cartouche, open_once, opened, longest, lexemes_of}
+use Rattle.iv_outer.specs.Opened.{placed, inside, is_case, opened_cartouche, open_once, opened, longest, lexemes_of}
 use Rattle.iv_outer.specs.Unreadable.{place_at, end_of}
 use Rattle.iv_outer.specs.Command.{HasPlace, IsPlaced, IsReading}
 

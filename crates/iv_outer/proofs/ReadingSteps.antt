@@ -1,6 +1,6 @@
 -- What the tokens of a piece are read as, and that there is one such reading.
-use Rattle.std.proofs.Common.{◌≡◌, ℕ, zero, suc, ◌+◌, ◌<◌, ◌≤◌, List, [], ◌∷◌, ◌++◌, length, take, drop, refl, sym, ◌∙◌, ap, arith, subst, inl, inr, append_assoc, append-nil}
-use Rattle.std.specs.Prelude.{◌⊎◌, Option, Some, None}
+use Rattle.std.proofs.Common.{◌≡◌, ℕ, zero, suc, ◌<◌, ◌≤◌, List, [], ◌∷◌, ◌++◌, take, drop, refl, sym, ◌∙◌, ap, arith, subst, inl, inr, append_assoc, append-nil}
+use Rattle.std.specs.Prelude.{Option, Some, None}
 use Rattle.std.proofs.lemmas.List.{take-append-drop}
 use Rattle.iv_text.specs.declared.Pos.{Pos}
 use Rattle.iv_forms.specs.declared.command.Body.{Body}
@@ -13,7 +13,7 @@ use Rattle.iv_read.specs.Forms.{form}
 use Rattle.iv_read.specs.FormLevels.{deep_form}
 use Rattle.iv_outer.specs.declared.reading.Reading.{Reading}
 use Rattle.iv_outer.specs.declared.reading.Reading.TheVariants as reading
-use Rattle.iv_outer.specs.Unreadable.{IsUnreadableAt, place_at, end_of}
+use Rattle.iv_outer.specs.Unreadable.{IsUnreadableAt, place_at}
 use Rattle.iv_outer.specs.Command.{IsReading, IsTooDeepAt}
 
 abbrev pub ReadLaw : Type 0

@@ -1,5 +1,5 @@
 -- The command that a piece is read as. After the outer syntax of Isabelle's Reference Manual.
-use Rattle.std.specs.Prelude.{◌≡◌, ◌⊎◌, ℕ, List, [], ◌∷◌, codes, if◌then◌else◌, Option, Some, None}
+use Rattle.std.specs.Prelude.{◌≡◌, ◌⊎◌, ℕ, List, [], ◌∷◌, codes, if◌then◌else◌, Some, None}
 use Rattle.iv_lex.specs.declared.cutting.Token.{Token}
 use Rattle.iv_text.specs.declared.Pos.{Pos}
 use Rattle.iv_forms.specs.declared.lexeme.Lexeme.{Lexeme}
