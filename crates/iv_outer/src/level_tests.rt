@@ -1,21 +1,18 @@
 use crate::reader::command;
 use crate::reading::Reading;
-use iv_lex::tokens;
+use iv_lex::{Token, tokens};
 use std::test::Fail;
 
 /// Pieces that repeat two texts around a third, so many times, and the places where they are refused: what stands in
 /// front, what is repeated before the middle, the middle, what is repeated behind it, what stands behind.
 const NESTED: &[(&[&str; 5], u32, Option<u32>)] = &[
-    // parentheses, each a level
-    (&["apply ", "(", "m", ")", ""], 400, None),
-    (&["apply ", "(", "m", ")", ""], 401, Some(6)),
+    // parentheses with suffixes, two levels each
+    (&["apply ", "(", "m", ")?", ""], 200, None),
+    (&["apply ", "(", "m", ")?", ""], 201, Some(6)),
     // separators, and the parentheses around them
     (&["apply (m", ", m", "", "", ")"], 399, None),
     (&["apply (m", ", m", "", "", ")"], 400, Some(6)),
     (&["by - (m", " | m", "", "", ")"], 400, Some(5)),
-    // parentheses with suffixes
-    (&["apply ", "(", "m", ")?", ""], 200, None),
-    (&["apply ", "(", "m", ")?", ""], 201, Some(6)),
     // attributes in attributes, of a fact, of a label, and of a fact inside of a method
     (&["from ", "a[THEN ", "b", "]", ""], 400, None),
     (&["from c and ", "a[THEN ", "b", "]", ""], 401, Some(11)),
@@ -23,16 +20,16 @@ const NESTED: &[(&[&str; 5], u32, Option<u32>)] = &[
     (&["have ", "a[THEN ", "b", "]", ": x"], 401, Some(5)),
     (&["apply (rule ", "a[THEN ", "b", "]", ")"], 400, None),
     (&["apply (rule ", "a[THEN ", "b", "]", ")"], 401, Some(12)),
-    // a case in a cartouche, around parentheses
+    // a case in a cartouche, in parentheses, around others with suffixes
     (
         &[
             "apply (match x in y => \\<open>",
             "(",
             "-",
-            ")",
+            ")+",
             "\\<close>)",
         ],
-        398,
+        199,
         None,
     ),
     (
@@ -40,17 +37,16 @@ const NESTED: &[(&[&str; 5], u32, Option<u32>)] = &[
             "apply (match x in y => \\<open>",
             "(",
             "-",
-            ")",
+            ")+",
             "\\<close>)",
         ],
-        399,
+        200,
         Some(6),
     ),
     // any nesting is answered: closed, cut, and wrong at its end
-    (&["apply ", "(", "m", ")", ""], 200_000, Some(6)),
+    (&["from ", "a[THEN ", "b", "]", ""], 100_000, Some(5)),
     (&["apply ", "(", "m", "", ""], 200_000, Some(200_007)),
     (&["apply ", "(", "m", ")", " ]"], 200_000, Some(400_008)),
-    (&["from ", "a[THEN ", "b", "]", ""], 100_000, Some(5)),
     (&["from ", "a ", "b", "", ""], 100_000, None),
 ];
 
@@ -66,26 +62,38 @@ fn piece_of(rt: &HostRuntime, texts: &[&str; 5], count: u32) -> Result<String, F
     Ok(out)
 }
 
+/// The place of a refusal, if it is one.
+fn place_of(reading: &Reading) -> Option<u32> {
+    match reading {
+        Reading::Form(_body) => None,
+        Reading::Unreadable(at) => Some(at.0),
+    }
+}
+
 /// Where a piece is refused.
-fn refused_at(rt: &HostRuntime, bytes: &[u8]) -> Result<Option<u32>, Fail> {
+fn refused_at(rt: &HostRuntime, tokens: &[Token]) -> Result<Option<u32>, Fail> {
+    if tokens.is_empty() {
+        return Ok(None);
+    }
+    let read = command(rt.alloc(), tokens)?;
+    Ok(place_of(&read.reading))
+}
+
+/// Where a row is refused.
+fn place_in(rt: &HostRuntime, texts: &[&str; 5], count: u32) -> Result<Option<u32>, Fail> {
+    let piece = piece_of(rt, texts, count)?;
+    let bytes = piece.as_bytes();
     if bytes.len() > 4_194_304 {
         return Ok(None);
     }
     let tokens = tokens(rt.alloc(), bytes)?;
-    if tokens.is_empty() {
-        return Ok(None);
-    }
-    match command(rt.alloc(), &tokens)?.reading {
-        Reading::Form(_body) => Ok(None),
-        Reading::Unreadable(at) => Ok(Some(at.0)),
-    }
+    refused_at(rt, &tokens)
 }
 
 #[test]
 fn levels(rt: HostRuntime) -> Result<(), Fail> {
     for (texts, count, place) in NESTED {
-        let piece = piece_of(&rt, texts, *count)?;
-        assert_eq!(rt; refused_at(&rt, piece.as_bytes())?, *place);
+        assert_eq!(rt; place_in(&rt, texts, *count)?, *place);
     }
     Ok(())
 }
