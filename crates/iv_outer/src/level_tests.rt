@@ -44,10 +44,10 @@ const NESTED: &[(&[&str; 5], u32, Option<u32>)] = &[
         Some(6),
     ),
     // any nesting is answered: closed, cut, and wrong at its end
-    (&["from ", "a[THEN ", "b", "]", ""], 100_000, Some(5)),
-    (&["apply ", "(", "m", "", ""], 200_000, Some(200_007)),
-    (&["apply ", "(", "m", ")", " ]"], 200_000, Some(400_008)),
-    (&["from ", "a ", "b", "", ""], 100_000, None),
+    (&["from ", "a[THEN ", "b", "]", ""], 20_000, Some(5)),
+    (&["apply ", "(", "m", "", ""], 20_000, Some(20_007)),
+    (&["apply ", "(", "m", ")", " ]"], 20_000, Some(40_008)),
+    (&["from ", "a ", "b", "", ""], 20_000, None),
 ];
 
 /// The texts of a row, each of the repeated ones so many times.
