@@ -39,9 +39,6 @@ x = free (name 120) i
 abbrev y : Term
 y = free (name 121) i
 
-abbrev z : Term
-z = free (name 122) i
-
 abbrev f : Term → Term
 f t = Spine (Free (name 102) (fun i i)) (one t)
 
@@ -57,10 +54,6 @@ said t = Axiom [] t
 
 abbrev equal : Term → Term → Term
 equal s t = eq i s t
-
--- the sequents are well typed
-abbrev Is : Term → Type 0
-Is t = IsTerm no_types t
 
 closed-is : (t : Term) → IsProp t → IsSequent (closed t)
 unfolding AreProps IsDistinctTerms

@@ -10,3 +10,6 @@ pub mod laws;
 
 pub use derivation::Derivation;
 pub use instance::{FixedTypes, FreeTerms, Instance, SchematicTerms, SchematicTypes, VarTerms};
+
+#[cfg(test)]
+mod tests;
