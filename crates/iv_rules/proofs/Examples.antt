@@ -24,6 +24,7 @@ use Rattle.iv_rules.specs.Equality.{eq, all}
 use Rattle.iv_rules.specs.Instance.{AreTyped, changes_typ, changes_typs, changes, changes_any}
 use Rattle.iv_rules.specs.Sequent.{closed, IsProp, AreProps, IsSequent}
 use Rattle.iv_rules.specs.Rules.{Concludes}
+use Rattle.iv_rules.proofs.Parts.{imp-is, eq-is}
 use Rattle.std.specs.List.{IsDistinct}
 
 abbrev name : ℕ → Name
@@ -62,14 +63,6 @@ closed-is t h = record { hyps = tt; distinct = tt; prop = h }
 a-is : IsProp a
 unfolding type_of result_type
 a-is = ((tt, tt), refl)
-
-imp-is : (s t : Term) → IsProp s → IsProp t → IsProp (imp s t)
-unfolding type_of result_type dom cod
-imp-is s t h k = ((tt, (ap (λ c. fun c (fun prop prop)) (sym h.1), (h.0, (ap (λ c. fun c prop) (sym k.1), (k.0, tt))))), refl)
-
-eq-is : (c : Typ) (s t : Term) → HasType no_types c s → HasType no_types c t → IsProp (eq c s t)
-unfolding type_of result_type dom cod
-eq-is c s t h k = ((tt, (ap (λ d. fun d (fun c prop)) (sym h.1), (h.0, (ap (λ d. fun d prop) (sym k.1), (k.0, tt))))), refl)
 
 x-is : HasType no_types i x
 unfolding type_of result_type

@@ -4,6 +4,7 @@ use Rattle.iv_term.specs.declared.name.Name.{Name}
 use Rattle.iv_term.specs.declared.typ.Typ.{Typ}
 use Rattle.iv_term.specs.declared.typ.Typ.TheBlock.{Nil as no_types}
 use Rattle.iv_term.specs.declared.term.Term.{Term}
+use Rattle.iv_term.specs.declared.term.Terms.{Terms}
 use Rattle.iv_term.specs.declared.term.Term.TheBlock.{Nil}
 use Rattle.iv_term.specs.Typ.{prop, fun}
 use Rattle.iv_term.specs.Term.{imp, antecedent, consequent, IsImplication, any_has_free}
@@ -137,3 +138,13 @@ RestsOn axioms d = (a : List ℕ × Term) → Contains (axioms_of d) a → Conta
 -- some derivation concludes the proposition without hypotheses, from these axioms alone
 abbrev pub Derivable : List (List ℕ × Term) → Term → Type 0
 Derivable axioms p = (d : Derivation) × (Concludes d (closed p) × RestsOn axioms d)
+
+-- a sequent, and the derivation that concludes it
+pub record Proved : Type 0 where
+  pub hyps : Terms
+  pub prop : Term
+  pub derivation : Derivation
+
+-- the derivation concludes the sequent
+abbrev pub Kept : Proved → Type 0
+Kept t = Concludes t.derivation (record { hyps = t.hyps; prop = t.prop })
