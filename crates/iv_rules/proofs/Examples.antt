@@ -1,5 +1,5 @@
 -- Each rule, on a small example: the definitions compute what they should.
-use Rattle.std.proofs.Common.{ℕ, [], ◌∷◌, codes, refl, sym, ap, arith}
+use Rattle.std.proofs.Common.{◌≡◌, ℕ, true, false, [], ◌∷◌, codes, refl, sym, ap, arith}
 use Rattle.iv_term.specs.declared.name.Name.{Name}
 use Rattle.iv_term.specs.declared.typ.Typ.{Typ}
 use Rattle.iv_term.specs.declared.typ.Typ.TheBlock.{Con, Schematic as Variable, Nil as no_types}
@@ -220,3 +220,19 @@ hyps-once =
       record { hyps = tm_cons there (one back_again); prop = equal (any_x i) (any_x i) },
       (by-round, ((tt, (tt, tt), tt, (tt, tt)), (tt, (y-is, tt)), refl, (refl, record { hyps = (same, tt); distinct = (refl, tt); prop = same }))),
     )
+
+-- an instance replaces x of type i, and no x of another type; it replaces a type in a binder
+abbrev y_for_x : Instance
+y_for_x = record { fixed = []; types = []; frees = ((name 120, i), y) ∷ []; schematics = [] }
+
+is-there : changes_any y_for_x (one (equal x y)) ≡ true
+unfolding changes_any changes changes_typ changes_typs same_typ same_typs
+is-there = refl
+
+is-other : changes_any y_for_x (one (eq prop (free (name 120) prop) a)) ≡ false
+unfolding changes_any changes changes_typ changes_typs same_typ same_typs
+is-other = refl
+
+is-in-a-type : changes_any x_is_y (one (all (Variable (name 116)) (lam (Variable (name 116)) a))) ≡ true
+unfolding changes_any changes changes_typ changes_typs same_typ same_typs
+is-in-a-type = refl
