@@ -1,0 +1,4 @@
+pub mod Lists
+pub mod Conclusions
+pub mod Parts
+pub mod Examples

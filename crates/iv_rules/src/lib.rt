@@ -1,0 +1,15 @@
+//! Derivations by the rules of the logic, and what they conclude.
+//!
+//! A [`Derivation`] is a tree with one of fifteen rules at each node. What it concludes is a definition over the tree,
+//! `Concludes` in `specs/Rules.antt`: a list of hypotheses and a proposition that follows from them.
+#![tactic(auto)]
+
+pub mod derivation;
+pub mod instance;
+pub mod laws;
+
+pub use derivation::Derivation;
+pub use instance::{FixedTypes, FreeTerms, Instance, SchematicTerms, SchematicTypes, VarTerms};
+
+#[cfg(test)]
+mod tests;
