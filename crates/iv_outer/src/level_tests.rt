@@ -1,6 +1,10 @@
+ghost use Rattle.std.specs.Prelude.{◌<◌, length};
+
 use crate::reader::command;
-use crate::reading::Reading;
+use crate::reading::{Command, Reading};
 use iv_lex::{Token, tokens};
+use iv_term::Mem;
+use std::alloc::Global;
 use std::test::Fail;
 
 /// Pieces that repeat two texts around a third, so many times, and the places where they are refused: what stands in
@@ -71,12 +75,15 @@ fn place_of(reading: &Reading) -> Option<u32> {
 }
 
 /// Where a piece is refused.
-fn refused_at(rt: &HostRuntime, tokens: &[Token]) -> Result<Option<u32>, Fail> {
-    if tokens.is_empty() {
-        return Ok(None);
-    }
-    let read = command(rt.alloc(), tokens)?;
-    Ok(place_of(&read.reading))
+fn refused_at(alloc: Global, tokens: &[Token]) -> Mem<Option<u32>>
+    requires some { 0 < length tokens.now }
+{
+    let Command {
+        at: _at,
+        word: _word,
+        reading,
+    } = command(alloc, tokens)?;
+    Ok(place_of(&reading))
 }
 
 /// Where a row is refused.
@@ -87,7 +94,10 @@ fn place_in(rt: &HostRuntime, texts: &[&str; 5], count: u32) -> Result<Option<u3
         return Ok(None);
     }
     let tokens = tokens(rt.alloc(), bytes)?;
-    refused_at(rt, &tokens)
+    if tokens.is_empty() {
+        return Ok(None);
+    }
+    Ok(refused_at(rt.alloc(), &tokens)?)
 }
 
 #[test]
