@@ -16,8 +16,6 @@ pub use reader::command;
 pub use reading::{Command, Reading};
 
 #[cfg(test)]
-mod level_tests;
-#[cfg(test)]
 mod samples;
 #[cfg(test)]
 mod tests;
