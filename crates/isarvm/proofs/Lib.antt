@@ -1,11 +1,9 @@
+pub mod Lists
 pub mod CommandSteps
 pub mod TokenOrder
 pub mod PartSteps
 pub mod WordSteps
 pub mod NameSteps
-pub mod StatementSteps
-pub mod Generalising
-pub mod ClaimSteps
 pub mod LineSteps
 pub mod PlainTexts
 pub mod MachineSteps

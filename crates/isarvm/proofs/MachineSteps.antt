@@ -4,8 +4,9 @@ use Rattle.std.specs.Prelude.{Some}
 use Rattle.std.specs.Str.{bytes_eq}
 use Rattle.iv_kernel.specs.declared.theorems.NamedThm.{NamedThm}
 use Rattle.isarvm.specs.Machine.{is_taken, is_named, is_pure, other_import}
-use Rattle.isarvm.specs.Sound.{IsClosed, AllClosed, seen}
-use Rattle.isarvm.proofs.StatementSteps.{drop-earlier}
+use Rattle.iv_claims.specs.Closed.{IsClosed}
+use Rattle.isarvm.specs.Sound.{AllClosed, seen}
+use Rattle.isarvm.proofs.Lists.{drop-item}
 
 pub AllClosed-push : (ns : List NamedThm) (n : NamedThm) → AllClosed ns → IsClosed n.thm → AllClosed (ns ++ n ∷ [])
 AllClosed-push [] n h k = (k, tt)
@@ -36,5 +37,5 @@ names-push q label had ns n e is =
 pub other-here : (names : List (List ℕ)) (i : ℕ) (name : List ℕ) → i < length names → name ≡ get_or names i name → is_pure name ≡ false
     → other_import (drop i names) ≡ other_import names → Some name ≡ other_import names
 other-here names i name lt is other h =
-    let here : other_import (drop i names) ≡ Some name = rw (drop-earlier names name (i + 1) i (omega arith) refl is, other) refl in
+    let here : other_import (drop i names) ≡ Some name = rw (drop-item names name i (omega arith) is, other) refl in
     sym here ∙ h

@@ -12,7 +12,7 @@ use Rattle.iv_words.specs.declared.words.Task.{Task}
 use Rattle.isarvm.specs.Report.{count_line}
 use Rattle.isarvm.specs.Run.{is_ended, counts_behind, line_of_finished, lines_of, report_from, state_behind, all_accepted, is_accepted, refusals_in, IsFrontOf}
 use Rattle.isarvm.proofs.Derivable.{finished-grows}
-use Rattle.isarvm.proofs.StatementSteps.{drop-earlier}
+use Rattle.isarvm.proofs.Lists.{drop-item}
 
 pub encoded-append : (xs ys : List ℕ) → encode_utf8_all (xs ++ ys) ≡ encode_utf8_all xs ++ encode_utf8_all ys
 encoded-append [] ys = refl
@@ -47,17 +47,17 @@ none-new n ns le =
 pub report-step : (document : List ℕ) (m : Machine) (cs : List Command) (i : ℕ) (c : Command) → i < length cs → c ≡ get_or cs i c
     → report_from document m (drop i cs) ≡ lines_of document c m (executed c m) ++ report_from document (next c m) (drop (i + 1) cs)
 unfolding report_from
-report-step document m cs i c lt is = rw (drop-earlier cs c (i + 1) i (omega arith) refl is)
+report-step document m cs i c lt is = rw (drop-item cs c i (omega arith) is)
 
 pub state-step : (m : Machine) (cs : List Command) (i : ℕ) (c : Command) → i < length cs → c ≡ get_or cs i c
     → state_behind m (drop i cs) ≡ state_behind (next c m) (drop (i + 1) cs)
 unfolding state_behind
-state-step m cs i c lt is = rw (drop-earlier cs c (i + 1) i (omega arith) refl is)
+state-step m cs i c lt is = rw (drop-item cs c i (omega arith) is)
 
 pub accepted-step : (m : Machine) (cs : List Command) (i : ℕ) (c : Command) → i < length cs → c ≡ get_or cs i c
     → all_accepted m (drop i cs) ≡ (is_accepted (executed c m) && all_accepted (next c m) (drop (i + 1) cs))
 unfolding all_accepted
-accepted-step m cs i c lt is = rw (drop-earlier cs c (i + 1) i (omega arith) refl is)
+accepted-step m cs i c lt is = rw (drop-item cs c i (omega arith) is)
 
 -- behind the last command
 pub report-end : (document : List ℕ) (m : Machine) (cs : List Command) (i : ℕ) → length cs ≤ i → report_from document m (drop i cs) ≡ []
@@ -125,7 +125,7 @@ pub refusals-more : (m k : Machine) (cs : List Command) (i : ℕ) (c : Command) 
     → (n + one) + refusals_in k (drop (i + 1) cs) ≡ whole
 unfolding refusals_in
 refusals-more m k cs i c b n one whole lt is test e h state =
-    let at : drop i cs ≡ c ∷ drop (i + 1) cs = drop-earlier cs c (i + 1) i (omega arith) refl is in
+    let at : drop i cs ≡ c ∷ drop (i + 1) cs = drop-item cs c i (omega arith) is in
     let step : refusals_in m (drop i cs) ≡ (if b then 0 else 1) + refusals_in (next c m) (drop (i + 1) cs) = rw (at, test) refl in
     rw (state, e) (omega (arith, step, h))
 

@@ -2,10 +2,8 @@ pub mod Letter
 pub mod Reading
 pub mod Command
 pub mod Refusal
-pub mod Statement
 pub mod Machine
 pub mod Names
-pub mod Open
 pub mod Sound
 pub mod Report
 pub mod Line

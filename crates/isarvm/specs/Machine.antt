@@ -10,7 +10,7 @@ use Rattle.isarvm.specs.declared.refusal.Mode.{Mode}
 use Rattle.isarvm.specs.declared.refusal.Mode.TheVariants as mode
 use Rattle.isarvm.specs.declared.refusal.Refusal.{Refusal}
 use Rattle.isarvm.specs.declared.refusal.Refusal.TheVariants.{Syntax, Mode as WrongMode, Name as BadName, Empty}
-use Rattle.isarvm.specs.Statement.{statement_of, schematic_var, is_solved}
+use Rattle.iv_claims.specs.Statement.{statement_of, schematic_var, is_solved}
 
 -- a finished theorem: its name, where it has one, and its proposition
 pub record Finished : Type 0 where

@@ -1,23 +1,15 @@
 -- What holds of the program's machine besides what the definitions see of it. Of this project.
 use Rattle.std.specs.Prelude.{◌≡◌, ℕ, List, [], ◌∷◌, map}
-use Rattle.iv_term.specs.declared.term.Term.TheBlock.{Nil}
-use Rattle.iv_term.specs.Derivation.{axioms_of}
-use Rattle.iv_kernel.specs.Proved.{Proved, Kept}
 use Rattle.iv_kernel.specs.declared.theorems.NamedThm.{NamedThm}
 use Rattle.isarvm.specs.declared.machine.Phase.{Phase}
 use Rattle.isarvm.specs.declared.machine.Phase.TheVariants as phase
 use Rattle.isarvm.specs.declared.machine.Vm.{Vm}
 use Rattle.isarvm.specs.Machine.{Finished, Stage, Start, Theory, Prove, Ended, Machine, is_taken}
 use Rattle.isarvm.specs.Names.{has_name}
-use Rattle.isarvm.specs.Open.{IsOpen}
+use Rattle.iv_claims.specs.Closed.{IsClosed}
+use Rattle.iv_claims.specs.Open.{IsOpen}
 
--- a theorem keeps a derivation that concludes it, has no hypotheses, and rests on no axiom
-pub record IsClosed (t : Proved) : Type 0 where
-  pub kept : Kept t
-  pub hyps : t.hyps ≡ Nil
-  pub axioms : axioms_of t.derivation ≡ []
-
--- each of some theorems does
+-- each of some theorems is closed
 abbrev pub AllClosed : List NamedThm → Type 0
 AllClosed [] = Unit {0}
 AllClosed (n ∷ ns) = IsClosed n.thm × AllClosed ns

@@ -2,14 +2,14 @@ ghost use Rattle.std.specs.Prelude.{◌≡◌, ◌≢◌, [], ◌∷◌, ◌++�
 ghost use Rattle.std.specs.Str.{bytes_eq};
 ghost use Rattle.isarvm.specs.Machine.{start, Theory, executed, is_pure, other_import, header_row, header_at, prose_at, lemma_row, lemma_at, by_at, oops_at, end_at, theorem_of, Accepted, Refused};
 ghost use Rattle.isarvm.specs.Run.{is_ended};
-ghost use Rattle.isarvm.specs.Sound.{IsClosed, IsSound, machine_of, stage_of, seen};
+ghost use Rattle.iv_claims.specs.Closed.{IsClosed};
+ghost use Rattle.isarvm.specs.Sound.{IsSound, machine_of, stage_of, seen};
 
-use crate::claim::Claim;
 use crate::commands::{Command, Form};
 use crate::names::Names;
-use crate::parts::Parts;
 use crate::refusal::{Mode, Refusal};
 use iv_forms::Items;
+use iv_claims::{Claim, Parts};
 use iv_kernel::{NamedThm, Theorems, Thm};
 use iv_term::Text;
 use std::alloc::Global;
@@ -204,8 +204,10 @@ impl Vm {
         match &self.phase {
             Phase::Prove(claim) => {
                 let label = claim.label.copy()?;
-                let thm = claim.prove(self.alloc)?;
-                self.keep(label, thm)
+                match claim.prove(self.alloc)? {
+                    Some(thm) => self.keep(label, thm),
+                    None => Err(Refusal::Empty),
+                }
             }
             Phase::Start => Err(Refusal::Mode(Mode::Start)),
             Phase::Theory => Err(Refusal::Mode(Mode::Theory)),

@@ -5,15 +5,12 @@
 //! standard input and output.
 #![tactic(auto)]
 
-pub mod claim;
 pub mod commands;
 pub mod law;
 pub mod letters;
 pub mod lines;
 pub mod machine;
 pub mod names;
-pub mod parts;
-pub mod prove;
 pub mod reading;
 pub mod refusal;
 pub mod report;
@@ -22,7 +19,6 @@ mod report_tests;
 pub mod run;
 #[cfg(test)]
 mod run_tests;
-pub mod statement;
 pub mod status;
 #[cfg(test)]
 mod tests;

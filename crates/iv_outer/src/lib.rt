@@ -1,4 +1,7 @@
-//! The outer syntax: the pieces of a document, and where no form can go on with one.
+//! The outer syntax: the pieces of a document, and the command that each is read as.
+//!
+//! [`split`] cuts tokens into pieces, and [`command`] reads one: as the typed command of a form, or as refused at exactly the
+//! place where no form goes on. There is one such command for each piece. The program stands on both.
 #![tactic(auto)]
 
 pub mod classify;
@@ -15,6 +18,10 @@ pub use pieces::{Piece, split, word};
 pub use reader::command;
 pub use reading::{Command, Reading};
 
+#[cfg(test)]
+mod level_tests;
+#[cfg(test)]
+mod places;
 #[cfg(test)]
 mod samples;
 #[cfg(test)]

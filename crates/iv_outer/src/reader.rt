@@ -57,7 +57,11 @@ fn reading(alloc: Global, lexemes: &[Lexeme]) -> Mem<Reading>
     }
 }
 
-/// The command that a piece is read as. Takes linear time but for cartouches in cartouches. Fails where memory runs out.
+/// The command that a piece is read as, the only one that there is: what a form reads all of its tokens as, or where it is
+/// refused. That is the place of the first token that no form can go on with, or the end of the last token where the piece
+/// is a proper beginning of one that a form reads; a token of a case's cartouche has the place of the cartouche. A piece that
+/// a form reads is refused at its first fact, label or method with more than 400 levels. Places are byte offsets. Takes linear
+/// time but for cartouches in cartouches. Fails where memory runs out.
 pub fn command(alloc: Global, tokens: &[Token]) -> Mem<Command>
     requires some { 0 < length tokens.now }
     ensures command { IfOk result (λ c. IsCommand tokens.now c) }

@@ -1,0 +1,4 @@
+pub mod StatementSteps
+pub mod Generalising
+pub mod ClaimSteps
+pub mod Solved

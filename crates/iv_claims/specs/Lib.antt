@@ -1,0 +1,4 @@
+pub mod Statement
+pub mod Closed
+pub mod Open
+pub mod Laws
