@@ -40,6 +40,13 @@ IsAnswered Done = Unit {0}
 IsAnswered Refused = Unit {0}
 IsAnswered _ = ⊥
 
+-- its commands were read, and executed as far as what they report could be written
+abbrev pub IsExecuted : Status → Type 0
+IsExecuted Done = Unit {0}
+IsExecuted Refused = Unit {0}
+IsExecuted WriteFault = Unit {0}
+IsExecuted _ = ⊥
+
 -- it was refused before a command was executed
 abbrev pub IsUnread : Status → Type 0
 IsUnread Usage = Unit {0}

@@ -19,7 +19,9 @@ use Rattle.isarvm.specs.declared.commands.Form.TheVariants as form
 use Rattle.isarvm.specs.declared.commands.Command.{Command}
 use Rattle.isarvm.specs.Reading.{reading_of}
 
--- whether a token is a name: an identifier, or several with dots between them
+-- What is built of a form is seen by its tokens, since a typed command keeps no place of a `[` or `(` that isn't built.
+
+-- whether a token may be a name: its kind is that of identifiers or of several with dots between them, words of the language too
 abbrev pub names_kind : Kind → Bool
 names_kind kind.Ident = true
 names_kind kind.Long = true
@@ -146,6 +148,10 @@ runs_of tokens = map (run_of tokens) (pieces_of tokens)
 -- the commands of a document
 abbrev pub IsCommands : List ℕ → List Command → Type 0
 IsCommands document cs = AreEach IsBuilt (runs_of (tokens_of document)) cs
+
+-- there are such, and no others
+abbrev pub HasCommands : List ℕ → Type 0
+HasCommands document = (cs : List Command) × (IsCommands document cs × ((ds : List Command) → IsCommands document ds → ds ≡ cs))
 
 -- where a command begins, or is unreadable
 abbrev pub place_in : Pos → Form → Pos

@@ -5,10 +5,10 @@ ghost use Rattle.iv_lex.specs.declared.cutting.Token.{Token};
 ghost use Rattle.iv_outer.specs.Command.{IsPlaced, HasPlace, at_of};
 ghost use Rattle.isarvm.specs.Command.{is_name, is_quoted, is_colon, is_left, is_assumption, unbuilt, lemma_form, stated_form, labelled_form, lemma_of, by_form, by_of, texts_of, form_of, built_of, place_in, run_of, runs_of, AreEach, IsRead, IsRun, IsCommands, IsNoLater, StandsIn};
 
-use crate::letters::rest_from;
 use crate::reading::reading_of;
 use iv_claims::Parts;
 use iv_forms::{Body, Items};
+use iv_lex::letters::rest_from;
 use iv_lex::{Kind, Token, tokens};
 use iv_outer::laws::pieces_are_joined;
 use iv_outer::{Command as Read, Piece, Reading, command, split};

@@ -1,4 +1,4 @@
-ghost use Rattle.std.specs.Prelude.{◌≡◌, ◌≤◌, length, drop};
+ghost use Rattle.std.specs.Prelude.{◌≡◌};
 ghost use Rattle.isarvm.specs.Letter.{is_blank, is_letter, is_word_letter};
 
 /// Whether the character separates words: a space, tab, line feed or carriage return.
@@ -20,12 +20,4 @@ pub fn is_word_letter(c: char) -> bool
     ensures { result ≡ is_word_letter c }
 {
     c.is_ascii_alphanumeric() || c == '_'
-}
-
-/// The items from this place on.
-pub fn rest_from<T>(items: &[T], from: usize) -> &[T]
-    requires { from ≤ length items.now }
-    ensures { result.now ≡ drop from items.now }
-{
-    &items[from..]
 }

@@ -6,8 +6,9 @@ ghost use Rattle.iv_term.specs.declared.want.Want.TheVariants.{Memory};
 ghost use Rattle.isarvm.specs.Letter.{is_blank, is_word_letter};
 ghost use Rattle.isarvm.specs.Reading.{words_of, word_before, parts_of, parts_after, is_word, is_name, name_in, reading_of};
 
-use crate::letters::{is_blank, is_letter, is_word_letter, rest_from};
+use crate::letters::{is_blank, is_letter, is_word_letter};
 use iv_claims::Parts;
+use iv_lex::letters::rest_from;
 use iv_term::{Mem, Text};
 use std::alloc::Global;
 

@@ -4,7 +4,7 @@ ghost use Rattle.iv_term.specs.declared.want.Want.TheVariants.{Memory};
 ghost use Rattle.iv_io.specs.Counts.{Rose, RoseAbove};
 ghost use Rattle.iv_report.specs.Place.{IsAt};
 ghost use Rattle.isarvm.specs.declared.commands.Command.{Command};
-ghost use Rattle.isarvm.specs.Command.{IsNoLater, StandsIn, IsCommands};
+ghost use Rattle.isarvm.specs.Command.{IsNoLater, StandsIn, IsCommands, HasCommands};
 ghost use Rattle.isarvm.specs.Refusal.{place_of};
 ghost use Rattle.isarvm.specs.Report.{count_line};
 ghost use Rattle.iv_words.specs.Words.{task_of};
@@ -12,17 +12,18 @@ ghost use Rattle.iv_words.specs.declared.words.Task.{Task};
 ghost use Rattle.isarvm.specs.Machine.{start, executed, next};
 ghost use Rattle.isarvm.specs.Sound.{IsSound, AllClosed, machine_of, seen};
 ghost use Rattle.iv_kernel.specs.declared.theorems.NamedThm.{NamedThm};
-ghost use Rattle.isarvm.specs.Answer.{answer_of, stopped_by, IsRun, IsAnswered, IsUnread};
+ghost use Rattle.isarvm.specs.Answer.{answer_of, stopped_by, IsRun, IsAnswered, IsExecuted, IsUnread};
 ghost use Rattle.isarvm.specs.Run.{AllDerivable, line_of_finished, refused_line, lines_of, report_from, state_behind, all_accepted, is_accepted, is_ended, refusals_in, counts_behind, reported, report_of, theorems_of, is_done, IsFrontOf};
 
 use crate::commands::{Command, commands};
-use crate::letters::rest_from;
+use crate::law::theorems_are_derivable;
 use crate::machine::Vm;
 use crate::refusal::Refusal;
 use crate::report::{count_line, refusal_line, theorem_line};
 use crate::status::Status;
 use iv_io::{Failed, ReadError, Sink, Source, read_all, write_all};
 use iv_kernel::{NamedThm, Theorems};
+use iv_lex::letters::rest_from;
 use iv_report::text::encoded;
 use iv_report::{Cursor, LIMIT};
 use iv_term::{Mem, Want};
@@ -375,7 +376,7 @@ pub fn check<K: Sink>(
 ) -> Status
     requires { length document.now ≤ LIMIT }
     ensures answers { IsRun result }
-    ensures commands { IsAnswered result → (cs : List Command) × IsCommands document.now cs }
+    ensures commands { IsExecuted result → HasCommands document.now }
     ensures done { IsAnswered result → (cs : List Command) → IsCommands document.now cs → result ≡ answer_of (is_done cs) }
     ensures written { IsAnswered result → (cs : List Command) → IsCommands document.now cs → (w : List ℕ) →
         K.written sink.old ≡ Some w → K.written sink.new ≡ Some (w ++ report_of task document.now cs) }
@@ -412,7 +413,7 @@ fn run_task<S: Source, K: Sink>(
     ensures read_fault { result ≡ Status.ReadFault → Rose (S.faults source.old) (S.faults source.new) }
     ensures write_fault { result ≡ Status.WriteFault → Rose (K.faults sink.old) (K.faults sink.new) }
     ensures never_number { result ≢ Status.Number }
-    ensures commands { IsAnswered result → (b : List ℕ) → S.left source.old ≡ Some b → (cs : List Command) × IsCommands b cs }
+    ensures commands { IsExecuted result → (b : List ℕ) → S.left source.old ≡ Some b → HasCommands b }
     ensures done { IsAnswered result → (b : List ℕ) → S.left source.old ≡ Some b → (cs : List Command) → IsCommands b cs →
         result ≡ answer_of (is_done cs) }
     ensures report { IsAnswered result → (b : List ℕ) → S.left source.old ≡ Some b → (cs : List Command) → IsCommands b cs →
@@ -470,8 +471,8 @@ pub fn run_isar<S: Source, K: Sink>(
     ensures read_fault { result ≡ Status.ReadFault → Rose (S.faults source.old) (S.faults source.new) }
     ensures write_fault { result ≡ Status.WriteFault → Rose (K.faults sink.old) (K.faults sink.new) }
     ensures never_number { result ≢ Status.Number }
-    // the commands of the document, of which what follows speaks
-    ensures commands { IsAnswered result → (b : List ℕ) → S.left source.old ≡ Some b → (cs : List Command) × IsCommands b cs }
+    // the commands of the document, of which what follows speaks: there are such, and no others
+    ensures commands { IsExecuted result → (b : List ℕ) → S.left source.old ≡ Some b → HasCommands b }
     ensures done { IsAnswered result → (b : List ℕ) → S.left source.old ≡ Some b → (cs : List Command) → IsCommands b cs →
         result ≡ answer_of (is_done cs) }
     // the report, whole after `Done` and `Refused`, and else a front part of it
@@ -491,6 +492,7 @@ pub fn run_isar<S: Source, K: Sink>(
     // each theorem that any commands prove is derivable
     ensures derivable { (cs : List Command) → AllDerivable (theorems_of cs) }
 {
+    theorems_are_derivable();
     match task_given(alloc, words) {
         Ok(task) => run_task(alloc, task, source, sink, proved),
         Err(BadWords::Usage) => Status::Usage,

@@ -29,13 +29,3 @@ pieces_from zero at (t ∷ ts) = record { first = at; count = plain_more ts + 1 
 -- the pieces of some tokens
 abbrev pub pieces_of : List Token → List Piece
 pieces_of ts = pieces_from 0 0 ts
-
--- whether a piece begins with a command word
-abbrev pub has_word : List Token → Bool
-has_word [] = false
-has_word (t ∷ ts) = begins t
-
--- the text of the first token
-abbrev pub first_text : List Token → List ℕ
-first_text [] = []
-first_text (t ∷ ts) = t.text

@@ -14,7 +14,7 @@ pub mod refusal;
 pub mod words;
 
 pub use classify::{class_of, lexeme_of, lexemes};
-pub use pieces::{Piece, split, word};
+pub use pieces::{Piece, split};
 pub use reader::command;
 pub use reading::{Command, Reading};
 

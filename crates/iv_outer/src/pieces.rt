@@ -1,12 +1,12 @@
-ghost use Rattle.std.specs.Prelude.{◌≡◌, ◌<◌, ◌≤◌, ◌^◌, ◌↔◌, IfOk, IfErr, IfSome, IsNone, false, length};
+ghost use Rattle.std.specs.Prelude.{◌≡◌, ◌<◌, ◌≤◌, ◌^◌, IfOk, IfErr, length};
 ghost use Rattle.iv_term.specs.declared.want.Want.TheVariants.{Memory};
-ghost use Rattle.iv_outer.specs.Piece.{begins, first_text, has_word, is_command, pieces_of, plain_more};
+ghost use Rattle.iv_outer.specs.Piece.{begins, is_command, pieces_of, plain_more};
 
 use crate::classify::class_of;
 use iv_gram::Class;
 use iv_lex::Token;
 use iv_lex::letters::rest_from;
-use iv_term::{Mem, Text};
+use iv_term::Mem;
 use std::alloc::Global;
 
 /// A run of tokens that is read as one command.
@@ -57,21 +57,4 @@ pub fn split(alloc: Global, tokens: &[Token]) -> Mem<Vec<Piece>>
         at += count;
     }
     Ok(found)
-}
-
-/// The command word with which a piece begins. `None` where it begins with none.
-pub fn word(tokens: &[Token]) -> Option<&Text>
-    ensures none { IsNone result ↔ (has_word tokens.now ≡ false) }
-    ensures text { IfSome result (λ w. w.now ≡ first_text tokens.now) }
-{
-    match tokens {
-        [] => None,
-        [token, ..] => {
-            if begins(token) {
-                Some(&token.text)
-            } else {
-                None
-            }
-        }
-    }
 }

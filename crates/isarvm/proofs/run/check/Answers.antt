@@ -1,7 +1,7 @@
 use Rattle.isarvm.proofs.run.check.Goals as goal
 
 pub returns-in-Ok-clause-commands : goal.returns-in-Ok-clause-commands
-returns-in-Ok-clause-commands g c = λ answered. (c.in-Ok.commands.items, c.in-Ok.ensures.commands)
+returns-in-Ok-clause-commands g c = λ executed. (c.in-Ok.commands.items, (c.in-Ok.ensures.commands, λ ds are. c.in-Ok.ensures.only ds are))
 
 pub returns-in-Ok-clause-done : goal.returns-in-Ok-clause-done
 returns-in-Ok-clause-done g c = λ answered cs is. rw (c.in-Ok.ensures.only cs is, ← c.as_slice.ensures.value) (c.run_commands.ensures.done answered)
