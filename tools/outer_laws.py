@@ -1,15 +1,23 @@
 #!/usr/bin/env python3
-"""Writes three laws of each form of `readings.txt`, for the readers of `iv_read`: how many tokens it takes, with which it
-begins, and that what it leaves is among what it reads.
+"""Writes three laws of each form of `readings.txt`, for its reader in `iv_facts`, `iv_methods` or `iv_read`: how many tokens
+it takes, with which it begins, and that what it leaves is among what it reads.
 
-Then `rt tidy` in the crate, which drops imports and lays out.
+Then `rt tidy` in the crates, which lays out.
 """
 import os
+import re
 
 import outer_forms as F
 
 HERE = os.path.dirname(os.path.abspath(__file__))
-ROOT = os.path.join(HERE, '..', 'crates', 'iv_read', 'proofs')
+# the crates of readers, the lowest first, each with the files of its forms
+CRATES = {'iv_facts': ['FactForm', 'PropForm'], 'iv_methods': ['MethodForm'], 'iv_read': ['CommandForm']}
+# what the proofs of the last crate name
+ROOTS = {
+    'Lengths': ['IsConst', 'IsEquation', 'IsAxiom', 'IsNoteGroup'],
+    'Firsts': ['IsAndConsts', 'IsAssumes', 'IsAxioms', 'IsFixes', 'IsMoreConsts', 'IsMoreNotes', 'IsParts'],
+    'Tails': ['IsAxiomConsts', 'IsAxiom', 'IsFixes', 'IsNoteGroup', 'IsParts'],
+}
 HEAD = '-- Written by tools/outer_laws.py from tools/readings.txt.\n'
 
 
@@ -129,57 +137,134 @@ class Forms:
         return text
 
 
-def uses(f, body):
-    """The forms and constructors that a text names."""
-    import re
+def named(names, body):
+    """The names that stand in a text."""
+    return sorted(x for x in names if re.search(r'(?<![\w.])%s(?!\w)' % re.escape(x), body))
+
+
+def used(lines, body):
+    """The lines of `use` with the names that a text needs."""
     out = ''
+    for line in lines.splitlines():
+        path, _, names = line.partition('.{')
+        if not names:
+            keep = re.search(r'(?<!\w)%s\.' % line.split()[-1], body)
+            out += line + '\n' if keep else ''
+            continue
+        kept = [n for n in names.rstrip('}').split(', ') if (n.strip('◌') in body if '◌' in n else named([n], body))]
+        out += '%s.{%s}\n' % (path, ', '.join(kept)) if kept else ''
+    return out
+
+
+def imports(f, body):
+    """The values, forms and constructors that a text names."""
+    out = ''.join(l + '\n' for l in F.imports(body) if ' as ' not in l)
     for file in ['FactForm', 'PropForm', 'MethodForm', 'CommandForm']:
-        names = [x for n, r in f.rels.items() if f.files[n] == file for x in [n] + [c['name'] for c in r['cons']]]
-        names = sorted(x for x in names if re.search(r'(?<![\w.])%s(?![\w])' % re.escape(x), body))
-        out += 'use Rattle.iv_forms.specs.%s.{%s}\n' % (file, ', '.join(names))
-    return ''.join(l + '\n' for l in F.imports(body) if ' as ' not in l) + out
+        names = named([x for n, r in f.rels.items() if f.files[n] == file for x in [n] + [c['name'] for c in r['cons']]], body)
+        if names:
+            out += 'use Rattle.iv_forms.specs.%s.{%s}\n' % (file, ', '.join(names))
+    return out
+
+
+LEXEMES = '''use Rattle.iv_lex.specs.declared.cutting.Token.{Token}
+use Rattle.iv_forms.specs.declared.lexeme.Lexeme.{Lexeme}
+use Rattle.iv_forms.specs.Lexeme.{AreAll, no_more, one_more}
+use Rattle.iv_gram.specs.declared.class.Sort.{Sort}
+'''
+
+# each law: the first word of its names, how it is written, what it is about, what it uses, and the law of tokens of a set
+LAWS = {
+    'Lengths': ('len', Forms.length, 'How many tokens a form leaves.', '''use Rattle.std.proofs.Common.{ℕ, ◌<◌, ◌≤◌, List, length, arith}
+use Rattle.std.specs.Prelude.{Option}
+''', '', '''
+pub len_AreAll : {k : Sort} {v : List Token} {ts us : List Lexeme} → AreAll k v ts us → length us ≤ length ts
+len_AreAll no_more = omega (arith)
+len_AreAll (one_more a b) = omega (arith, len_AreAll b)
+'''),
+    'Firsts': ('free', Forms.begin, 'With which tokens a form begins: none of a set that has none of its first ones.', '''use Rattle.std.proofs.Common.{◌≡◌, ℕ, true, false, List}
+use Rattle.std.specs.Prelude.{Option}
+''', '''use Rattle.iv_gram.specs.declared.class.Class.TheVariants as class
+use Rattle.iv_gram.specs.declared.class.Sort.TheVariants as sort
+use Rattle.iv_facts.specs.Found.{begins}
+use Rattle.iv_facts.specs.Laws.{clear}
+''', '''
+pub free_AreAll : (k l : Sort) → clear k l ≡ true → {v : List Token} {ts us : List Lexeme} → AreAll l v ts us → begins k us ≡ false → begins k ts ≡ false
+free_AreAll k l t no_more e = e
+free_AreAll k l t (one_more a b) e = apart k l t _ a
+'''),
+    'Tails': ('tail', Forms.tail, 'Where a place among the tokens that a form leaves is: among those that it reads.', '''use Rattle.std.proofs.Common.{ℕ, List, inr}
+use Rattle.std.specs.Prelude.{Option}
+use Rattle.iv_text.specs.declared.Pos.{Pos}
+''', '''use Rattle.iv_facts.specs.Found.{IsAmong}
+''', '''
+pub tail_AreAll : (p : Pos) → {k : Sort} {v : List Token} {ts us : List Lexeme} → AreAll k v ts us → IsAmong p us → IsAmong p ts
+tail_AreAll p no_more q = q
+tail_AreAll p (one_more a b) q = inr (tail_AreAll p b q)
+'''),
+}
+
+
+def indented(text):
+    return ''.join('  %s\n' % l if l else '\n' for l in text.split('\n')).rstrip('\n') + '\n'
+
+
+def field(form):
+    """The name of a form in the laws of its crate that crates above know."""
+    if form in ('IsMethod', 'IsOptMethod'):
+        return 'one' if form == 'IsMethod' else 'opt'
+    return 'tokens' if form == 'AreAll' else re.sub('(?<!^)([A-Z])', r'_\1', form[2:]).lower()
+
+
+def from_below(f, crate, law, body):
+    """The text with what is known of forms of lower crates."""
+    word = LAWS[law][0]
+    for low, files in CRATES.items():
+        if low == crate:
+            return body.replace('apart k', 'law.sets.apart k')
+        known = 'law.%s%s' % ('' if low == 'iv_facts' else 'method_', law.lower())
+        for n in [n for n in f.rels if f.files[n] in files] + (['AreAll'] if low == 'iv_facts' else []):
+            body = re.sub(r'\b%s_%s\b' % (word, n), '%s.%s' % (known, field(n)), body)
+
+
+def wanted(f, crate, law):
+    """The forms of a crate whose laws are written: all, but in the last crate those that its proofs name, and what these need."""
+    own = [n for n in f.rels if f.files[n] in CRATES[crate]]
+    if crate != 'iv_read':
+        return own
+    todo, found = list(ROOTS[law]), set()
+    while todo:
+        n = todo.pop()
+        if n in own and n not in found:
+            found.add(n)
+            todo += [x for c in f.rels[n]['cons'] for k, x in items(c) if k == 'form']
+    return found
+
+
+def laws(f, crate, law):
+    """The laws of a crate's forms, in one text."""
+    word, make, about, std, own, of_set = LAWS[law]
+    forms = wanted(f, crate, law)
+    body = of_set if crate == 'iv_facts' else ''
+    for kind, group in f.groups:
+        group = [r for r in group if r['name'] in forms]
+        if group:
+            text = '\n'.join(make(f, r) for r in group)
+            body += '\n' + ('mutual\n' + indented(text.rstrip('\n')) if kind == 'mutual' else text)
+    if crate != 'iv_facts':
+        own += 'use Rattle.%s.specs.Laws.{Below}\n' % crate
+        body = '\nmodule _ (law : Below) where\n' + indented(from_below(f, crate, law, body).strip('\n'))
+    elif law == 'Firsts':
+        own += 'use Rattle.iv_facts.proofs.Sorts.{Law, apart}\n'
+        body = '\nmodule _ (law : Law) where\n' + indented(body.replace('apart k', 'apart law k').strip('\n'))
+    return HEAD + '-- %s\n' % about + used(std + LEXEMES + own + imports(f, body), body) + body.rstrip('\n') + '\n'
 
 
 def write():
     f = Forms()
-    bodies = {'Lengths': '', 'Firsts': '', 'Tails': ''}
-    for kind, group in f.groups:
-        for file, make in (('Lengths', f.length), ('Firsts', f.begin), ('Tails', f.tail)):
-            text = '\n'.join(make(r) for r in group)
-            if kind == 'mutual':
-                text = 'mutual\n' + ''.join('  %s\n' % l if l else '\n' for l in text.rstrip('\n').split('\n'))
-            bodies[file] += text + '\n'
-    common = 'use Rattle.iv_lex.specs.declared.cutting.Token.{Token}\nuse Rattle.iv_forms.specs.declared.lexeme.Lexeme.{Lexeme}\nuse Rattle.iv_forms.specs.Lexeme.{AreAll, no_more, one_more}\n'
-    text = HEAD + '-- How many tokens a form leaves.\nuse Rattle.std.proofs.Common.{ℕ, ◌<◌, ◌≤◌, List, length, arith}\nuse Rattle.std.specs.Prelude.{Option}\n'
-    text += common + 'use Rattle.iv_gram.specs.declared.class.Sort.{Sort}\n' + uses(f, bodies['Lengths'])
-    text += '''
-pub len_AreAll : {k : Sort} {v : List Token} {ts us : List Lexeme} → AreAll k v ts us → length us ≤ length ts
-len_AreAll no_more = omega (arith)
-len_AreAll (one_more a b) = omega (arith, len_AreAll b)
-
-''' + bodies['Lengths']
-    open(os.path.join(ROOT, 'Lengths.antt'), 'w').write(text)
-    text = HEAD + '-- With which tokens a form begins: none of a set that has none of its first ones.\nuse Rattle.std.proofs.Common.{◌≡◌, ℕ, Bool, true, false, List}\nuse Rattle.std.specs.Prelude.{Option}\n'
-    text += common + 'use Rattle.iv_gram.specs.declared.class.Class.TheVariants as class\nuse Rattle.iv_gram.specs.declared.class.Sort.{Sort}\nuse Rattle.iv_gram.specs.declared.class.Sort.TheVariants as sort\n'
-    text += uses(f, bodies['Firsts']) + 'use Rattle.iv_read.specs.Found.{begins}\nuse Rattle.iv_read.proofs.Sorts.{Law, clear, apart}\n'
-    text += '''
-module _ (law : Law) where
-  pub free_AreAll : (k l : Sort) → clear k l ≡ true → {v : List Token} {ts us : List Lexeme} → AreAll l v ts us → begins k us ≡ false → begins k ts ≡ false
-  free_AreAll k l t no_more e = e
-  free_AreAll k l t (one_more a b) e = apart law k l t _ a
-
-''' + ''.join('  %s\n' % l if l else '\n' for l in bodies['Firsts'].replace('apart k', 'apart law k').rstrip('\n').split('\n'))
-    open(os.path.join(ROOT, 'Firsts.antt'), 'w').write(text)
-    text = HEAD + '-- Where a place among the tokens that a form leaves is: among those that it reads.\nuse Rattle.std.proofs.Common.{ℕ, List, inr}\nuse Rattle.std.specs.Prelude.{Option}\n'
-    text += 'use Rattle.iv_text.specs.declared.Pos.{Pos}\n' + common + 'use Rattle.iv_gram.specs.declared.class.Sort.{Sort}\n' + uses(f, bodies['Tails'])
-    text += '''use Rattle.iv_read.specs.Found.{IsAmong}
-
-pub tail_AreAll : (p : Pos) → {k : Sort} {v : List Token} {ts us : List Lexeme} → AreAll k v ts us → IsAmong p us → IsAmong p ts
-tail_AreAll p no_more q = q
-tail_AreAll p (one_more a b) q = inr (tail_AreAll p b q)
-
-''' + bodies['Tails']
-    open(os.path.join(ROOT, 'Tails.antt'), 'w').write(text)
+    for crate in CRATES:
+        for law in LAWS:
+            path = os.path.join(HERE, '..', 'crates', crate, 'proofs', law + '.antt')
+            open(path, 'w').write(laws(f, crate, law))
 
 
 if __name__ == '__main__':

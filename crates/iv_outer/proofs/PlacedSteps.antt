@@ -10,7 +10,7 @@ use Rattle.iv_forms.specs.declared.command.Body.{Body}
 use Rattle.iv_forms.specs.declared.lexeme.Lexeme.{Lexeme}
 use Rattle.iv_forms.specs.CommandForm.{IsForm}
 use Rattle.iv_read.specs.FormLevels.{deep_form}
-use Rattle.iv_read.specs.Found.{IsAmong}
+use Rattle.iv_facts.specs.Found.{IsAmong}
 use Rattle.iv_outer.specs.declared.reading.Reading.{Reading}
 use Rattle.iv_outer.specs.declared.reading.Reading.TheVariants as reading
 use Rattle.iv_outer.specs.Classify.{lexeme_of}

@@ -7,8 +7,7 @@ use Rattle.iv_forms.specs.declared.command.Body.{Body}
 use Rattle.iv_forms.specs.declared.lexeme.Lexeme.{Lexeme}
 use Rattle.iv_forms.specs.CommandForm.{IsForm}
 use Rattle.iv_forms.specs.Readable.{IsReadable, IsOpen, IsRefusedAt}
-use Rattle.iv_read.specs.Found.{Found, got, wrong, deep}
-use Rattle.iv_read.specs.Methods.{unless_deep}
+use Rattle.iv_facts.specs.Found.{Found, got, wrong, deep, unless_deep}
 use Rattle.iv_read.specs.Forms.{form}
 use Rattle.iv_read.specs.FormLevels.{deep_form}
 use Rattle.iv_outer.specs.declared.reading.Reading.{Reading}

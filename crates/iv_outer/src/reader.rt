@@ -10,12 +10,13 @@ use crate::opened::lexemes_of;
 use crate::pieces::begins;
 use crate::reading::{Command, Reading};
 use crate::refusal::{end_of, place_at};
+use iv_facts::Stop;
 use iv_forms::Lexeme;
 use iv_forms::judge::judge;
 use iv_gram::Verdict;
 use iv_lex::Token;
+use iv_read::form;
 use iv_read::laws::{deep_parts_are_placed, forms_are_read};
-use iv_read::{Stop, form};
 use iv_term::{Mem, Text, Want};
 use std::alloc::Global;
 

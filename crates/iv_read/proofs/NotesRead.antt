@@ -23,20 +23,18 @@ use Rattle.iv_forms.specs.PropForm as PF
 use Rattle.iv_forms.specs.PropForm.{IsLabel, IsOptLabel, IsPatterns, IsProp, IsMoreProps, IsGroup, IsMoreGroups, IsProps, IsOfType, IsVarGroup, IsMoreVars, IsVars}
 use Rattle.iv_forms.specs.CommandForm as C
 use Rattle.iv_forms.specs.CommandForm.{IsParts, IsNoteGroup, IsMoreNotes, IsNotes, IsObtained}
-use Rattle.iv_read.specs.declared.props.Named.{Named}
-use Rattle.iv_read.specs.Found.{got, wrong, deep, then_, begins, behind, one, many, fold}
-use Rattle.iv_read.specs.FactLevels.{opt_atts_levels, deep_at, first_of, deep_fact, deep_more_facts, deep_facts}
+use Rattle.iv_facts.specs.declared.props.Named.{Named}
+use Rattle.iv_facts.specs.Found.{got, wrong, deep, then_, begins, behind, one, many, fold, unless_deep}
+use Rattle.iv_facts.specs.FactLevels.{opt_atts_levels, deep_at, first_of, deep_fact, deep_more_facts, deep_facts}
 use Rattle.iv_read.specs.CommandLevels.{deep_note_group, deep_more_notes, deep_notes, deep_obtained}
-use Rattle.iv_read.specs.Facts as F
-use Rattle.iv_read.specs.Props as P
+use Rattle.iv_facts.specs.Facts as F
+use Rattle.iv_facts.specs.Props as P
 use Rattle.iv_read.specs.Commands as K
-use Rattle.iv_read.proofs.Steps.{many_stop, fold_stop}
-use Rattle.iv_read.proofs.Held.{unless, then_unless, then_got, or_so}
-use Rattle.iv_read.proofs.Sorts.{Law, apart, within}
-use Rattle.iv_read.proofs.Lengths.{len_IsFact, len_AreAll, len_IsNoteGroup}
+use Rattle.iv_facts.proofs.Steps.{many_stop, fold_stop}
+use Rattle.iv_facts.proofs.Held.{then_unless, then_got, or_so}
+use Rattle.iv_read.proofs.Lengths.{len_IsNoteGroup}
 use Rattle.iv_read.proofs.Firsts as First
-use Rattle.iv_read.proofs.FactsRead as FR
-use Rattle.iv_read.proofs.PropsRead as R
+use Rattle.iv_read.specs.Laws.{Below}
 
 -- the names of a part, where it is there, and those that were found
 abbrev joined : List Token → List Token → List Token
@@ -64,7 +62,7 @@ twice None None r s = refl
 twice None (Some q) r s = refl
 twice (Some p) q r s = refl
 
-module _ (law : Law) where
+module _ (law : Below) where
   parts_from : {q : Parts} {ts us : List Lexeme} → IsParts q ts us → begins sort.Identifier us ≡ false → K.begins_part us ≡ false → (p : Parts) (steps : List Lexeme) → length ts ≤ length steps
       → fold K.begins_part K.part p steps ts ≡ got (merged p q) us
   unfolding fold then_ K.part K.begins_part
@@ -73,37 +71,37 @@ module _ (law : Law) where
   parts_from (C.uses_part w x xs r z) i e p [] b = absurd (omega (arith, b))
   parts_from (C.declares_part w x xs r z) i e p [] b = absurd (omega (arith, b))
   parts_from (C.methods_part {x = y} {xs = ys} {p = q} w x xs r z) i e p (_ ∷ steps) b =
-      rw (w, R.some_of_read law sort.Identifier y x xs (First.free_IsParts law sort.Identifier refl refl refl r i))
-      (rw (parts_from r i e (record { methods = y.token ∷ ys; uses = p.uses; declares = p.declares }) steps (omega (arith, b, len_AreAll xs)), z) refl)
+      rw (w, law.names.some_of sort.Identifier y x xs (First.free_IsParts law sort.Identifier refl refl refl r i))
+      (rw (parts_from r i e (record { methods = y.token ∷ ys; uses = p.uses; declares = p.declares }) steps (omega (arith, b, law.lengths.tokens xs)), z) refl)
   parts_from (C.uses_part {w = v} {x = y} {xs = ys} {p = q} w x xs r z) i e p (_ ∷ steps) b =
-      rw (apart law (sort.Only class.Methods) (sort.Only class.Uses) refl v.class w, w, R.some_of_read law sort.Identifier y x xs (First.free_IsParts law sort.Identifier refl refl refl r i))
-      (rw (parts_from r i e (record { methods = p.methods; uses = y.token ∷ ys; declares = p.declares }) steps (omega (arith, b, len_AreAll xs)), z) refl)
+      rw (law.sets.apart (sort.Only class.Methods) (sort.Only class.Uses) refl v.class w, w, law.names.some_of sort.Identifier y x xs (First.free_IsParts law sort.Identifier refl refl refl r i))
+      (rw (parts_from r i e (record { methods = p.methods; uses = y.token ∷ ys; declares = p.declares }) steps (omega (arith, b, law.lengths.tokens xs)), z) refl)
   parts_from (C.declares_part {w = v} {x = y} {xs = ys} {p = q} w x xs r z) i e p (_ ∷ steps) b =
       rw (
-        apart law (sort.Only class.Methods) (sort.Only class.Declares) refl v.class w,
-        apart law (sort.Only class.Uses) (sort.Only class.Declares) refl v.class w,
+        law.sets.apart (sort.Only class.Methods) (sort.Only class.Declares) refl v.class w,
+        law.sets.apart (sort.Only class.Uses) (sort.Only class.Declares) refl v.class w,
         w,
-        R.some_of_read law sort.Identifier y x xs (First.free_IsParts law sort.Identifier refl refl refl r i),
+        law.names.some_of sort.Identifier y x xs (First.free_IsParts law sort.Identifier refl refl refl r i),
       )
-      (rw (parts_from r i e (record { methods = p.methods; uses = p.uses; declares = y.token ∷ ys }) steps (omega (arith, b, len_AreAll xs)), z) refl)
+      (rw (parts_from r i e (record { methods = p.methods; uses = p.uses; declares = y.token ∷ ys }) steps (omega (arith, b, law.lengths.tokens xs)), z) refl)
 
   pub parts_read : {q : Parts} {ts us : List Lexeme} → IsParts q ts us → begins sort.Identifier us ≡ false → K.begins_part us ≡ false → K.parts ts ≡ got q us
   unfolding K.parts
   parts_read {q = q} {ts = ts} d i e = rw (parts_from d i e (record { methods = []; uses = []; declares = [] }) ts (omega (arith)), joined_none q.methods, joined_none q.uses, joined_none q.declares) refl
 
   -- a name with attributes and no `=` behind it begins no note
-  unnamed : (ts us : List Lexeme) (n : Named) (q : Option Pos) → begins (sort.Only class.Equal) us ≡ false → P.named_atts ts ≡ unless q n us → K.begins_note ts ≡ false
-  unfolding K.begins_note K.note_name unless then_
+  unnamed : (ts us : List Lexeme) (n : Named) (q : Option Pos) → begins (sort.Only class.Equal) us ≡ false → P.named_atts ts ≡ unless_deep q n us → K.begins_note ts ≡ false
+  unfolding K.begins_note K.note_name then_
   unnamed ts us n None e g = rw (g, wrong_one us e) refl
   unnamed ts us n (Some p) e g = rw g refl
 
   no_equal : (n : Lexeme) {xs : List Att} {ts us : List Lexeme} → Is sort.Name n → IsOptAtts xs ts us → begins (sort.Only class.Left) us ≡ false → begins (sort.Only class.Equal) us ≡ false → K.begins_note (n ∷ ts) ≡ false
-  no_equal n {ts = ts} {us = us} h a l e = unnamed (n ∷ ts) us _ (deep_at (n ∷ ts) (opt_atts_levels a)) e (R.named_atts_read law n h a l)
+  no_equal n {ts = ts} {us = us} h a l e = unnamed (n ∷ ts) us _ (deep_at (n ∷ ts) (opt_atts_levels a)) e (law.props.named_atts n h a l)
 
   no_note : {f : Fact} {ts us : List Lexeme} → IsFact f ts us → begins (sort.Only class.Left) us ≡ false → begins (sort.Only class.Equal) us ≡ false → K.begins_note ts ≡ false
   no_note (FF.fact {n = n} h FF.no_sels a) l e = no_equal n h a l e
   no_note (FF.fact {n = n} h (FF.sels {a = x} o s m c) a) l e =
-      no_equal n h FF.no_atts (apart law (sort.Only class.Left) (sort.Only class.Open) refl x.class o) (apart law (sort.Only class.Equal) (sort.Only class.Open) refl x.class o)
+      no_equal n h FF.no_atts (law.sets.apart (sort.Only class.Left) (sort.Only class.Open) refl x.class o) (law.sets.apart (sort.Only class.Equal) (sort.Only class.Open) refl x.class o)
 
   -- facts go on behind `and` where no name and `=` stand
   and_goes : (w : Lexeme) (ts : List Lexeme) → IsA class.And w → K.begins_note ts ≡ false → K.goes_noted (w ∷ ts) ≡ true
@@ -124,39 +122,39 @@ module _ (law : Law) where
   unfolding K.goes_noted
   goes_on (FF.fact h ss a) = rw h refl
 
-  next_noted_read : {f : Fact} {ts us : List Lexeme} (d : IsFact f ts us) → begins (sort.Only class.Open) us ≡ false → begins (sort.Only class.Left) us ≡ false → K.next_noted ts ≡ unless (deep_fact d) f us
+  next_noted_read : {f : Fact} {ts us : List Lexeme} (d : IsFact f ts us) → begins (sort.Only class.Open) us ≡ false → begins (sort.Only class.Left) us ≡ false → K.next_noted ts ≡ unless_deep (deep_fact d) f us
   unfolding K.next_noted
-  next_noted_read d o l = rw (First.free_IsFact law (sort.Only class.And) refl d) (FR.a_fact_read law d o l)
+  next_noted_read d o l = rw (law.firsts.fact (sort.Only class.And) refl d) (law.facts.fact d o l)
 
   more_noted_read : {fs : List Fact} {ts us : List Lexeme} (q : Option Pos) (d : IsMoreFacts fs ts us) → begins (sort.Only class.Open) us ≡ false → begins (sort.Only class.Left) us ≡ false → begins (sort.Only class.Equal) us ≡ false
-      → Tail us q → (found : List Fact) (steps : List Lexeme) → length ts ≤ length steps → many K.goes_noted K.next_noted found steps ts ≡ unless (first_of (deep_more_facts d) q) (found ++ fs) us
-  unfolding many unless then_ K.goes_noted
+      → Tail us q → (found : List Fact) (steps : List Lexeme) → length ts ≤ length steps → many K.goes_noted K.next_noted found steps ts ≡ unless_deep (first_of (deep_more_facts d) q) (found ++ fs) us
+  unfolding many then_ K.goes_noted
   more_noted_read {us = us} None FF.no_more_facts o l e (stops g) found steps b = many_stop K.goes_noted K.next_noted found steps us g ∙ ap (λ z. got z us) (sym (append-nil found))
   more_noted_read {us = []} (Some p) FF.no_more_facts o l e (sinks r g n) found [] b = let bad : false ≡ true = g in cc
   more_noted_read {us = u ∷ us} (Some p) FF.no_more_facts o l e (sinks r g n) found [] b = absurd (omega (arith, b))
   more_noted_read (Some p) FF.no_more_facts o l e (sinks r g n) found (_ ∷ steps) b = rw (g, n) refl
-  more_noted_read q (FF.more_facts d r) o l e t found [] b = absurd (omega (arith, b, len_IsFact d))
+  more_noted_read q (FF.more_facts d r) o l e t found [] b = absurd (omega (arith, b, law.lengths.fact d))
   more_noted_read q (FF.and_facts a d r) o l e t found [] b = absurd (omega (arith, b))
   more_noted_read q (FF.more_facts {f = f} {fs = fs} {us = us} {vs = vs} d r) o l e t found (_ ∷ steps) b =
       rw (goes_on d)
-      (then_unless (deep_fact d) (first_of (deep_more_facts r) q) f _ us vs _ (next_noted_read d (First.free_IsMoreFacts law (sort.Only class.Open) refl refl r o) (First.free_IsMoreFacts law (sort.Only class.Left) refl refl r l))
-      (more_noted_read q r o l e t (found ++ f ∷ []) steps (omega (arith, b, len_IsFact d)) ∙ ap (λ z. unless (first_of (deep_more_facts r) q) z vs) (append_assoc found (f ∷ []) fs))
-      ∙ ap (λ z. unless z (found ++ f ∷ fs) vs) (sym (first_assoc (deep_fact d) (deep_more_facts r) q)))
+      (then_unless (deep_fact d) (first_of (deep_more_facts r) q) f _ us vs _ (next_noted_read d (law.firsts.more_facts (sort.Only class.Open) refl refl r o) (law.firsts.more_facts (sort.Only class.Left) refl refl r l))
+      (more_noted_read q r o l e t (found ++ f ∷ []) steps (omega (arith, b, law.lengths.fact d)) ∙ ap (λ z. unless_deep (first_of (deep_more_facts r) q) z vs) (append_assoc found (f ∷ []) fs))
+      ∙ ap (λ z. unless_deep z (found ++ f ∷ fs) vs) (sym (first_assoc (deep_fact d) (deep_more_facts r) q)))
   more_noted_read q (FF.and_facts {a = w} {f = f} {fs = fs} {ts = ts} {us = us} {vs = vs} a d r) o l e t found (_ ∷ steps) b =
-      let left : begins (sort.Only class.Left) us ≡ false = First.free_IsMoreFacts law (sort.Only class.Left) refl refl r l in
-      let equal : begins (sort.Only class.Equal) us ≡ false = First.free_IsMoreFacts law (sort.Only class.Equal) refl refl r e in
+      let left : begins (sort.Only class.Left) us ≡ false = law.firsts.more_facts (sort.Only class.Left) refl refl r l in
+      let equal : begins (sort.Only class.Equal) us ≡ false = law.firsts.more_facts (sort.Only class.Equal) refl refl r e in
       rw (and_goes w ts a (no_note d left equal))
-      (then_unless (deep_fact d) (first_of (deep_more_facts r) q) f _ us vs _ (and_next w ts a ∙ FR.a_fact_read law d (First.free_IsMoreFacts law (sort.Only class.Open) refl refl r o) left)
-      (more_noted_read q r o l e t (found ++ f ∷ []) steps (omega (arith, b, len_IsFact d)) ∙ ap (λ z. unless (first_of (deep_more_facts r) q) z vs) (append_assoc found (f ∷ []) fs))
-      ∙ ap (λ z. unless z (found ++ f ∷ fs) vs) (sym (first_assoc (deep_fact d) (deep_more_facts r) q)))
+      (then_unless (deep_fact d) (first_of (deep_more_facts r) q) f _ us vs _ (and_next w ts a ∙ law.facts.fact d (law.firsts.more_facts (sort.Only class.Open) refl refl r o) left)
+      (more_noted_read q r o l e t (found ++ f ∷ []) steps (omega (arith, b, law.lengths.fact d)) ∙ ap (λ z. unless_deep (first_of (deep_more_facts r) q) z vs) (append_assoc found (f ∷ []) fs))
+      ∙ ap (λ z. unless_deep z (found ++ f ∷ fs) vs) (sym (first_assoc (deep_fact d) (deep_more_facts r) q)))
 
   noted_read : {fs : List Fact} {ts us : List Lexeme} (q : Option Pos) (d : IsFacts fs ts us) → begins (sort.Only class.Open) us ≡ false → begins (sort.Only class.Left) us ≡ false → begins (sort.Only class.Equal) us ≡ false
-      → Tail us q → K.noted ts ≡ unless (first_of (deep_facts d) q) fs us
+      → Tail us q → K.noted ts ≡ unless_deep (first_of (deep_facts d) q) fs us
   unfolding K.noted K.more_noted
   noted_read q (FF.facts {f = f} {fs = fs} {us = us} {vs = vs} d r) o l e t =
-      then_unless (deep_fact d) (first_of (deep_more_facts r) q) f (f ∷ fs) us vs _ (FR.a_fact_read law d (First.free_IsMoreFacts law (sort.Only class.Open) refl refl r o) (First.free_IsMoreFacts law (sort.Only class.Left) refl refl r l))
+      then_unless (deep_fact d) (first_of (deep_more_facts r) q) f (f ∷ fs) us vs _ (law.facts.fact d (law.firsts.more_facts (sort.Only class.Open) refl refl r o) (law.firsts.more_facts (sort.Only class.Left) refl refl r l))
       (more_noted_read q r o l e t (f ∷ []) us (omega (arith)))
-      ∙ ap (λ z. unless z (f ∷ fs) vs) (sym (first_assoc (deep_fact d) (deep_more_facts r) q))
+      ∙ ap (λ z. unless_deep z (f ∷ fs) vs) (sym (first_assoc (deep_fact d) (deep_more_facts r) q))
 
   -- the place of a group's name, where it is too deep
   abbrev name_place : {gs : List NoteGroup} {ts us : List Lexeme} → IsMoreNotes gs ts us → Option Pos
@@ -169,60 +167,60 @@ module _ (law : Law) where
 
   -- what stands behind the facts of a group: another group, or the end
   named_tail : (w n c : Lexeme) {xs : List Att} {ts us : List Lexeme} (q : Option Pos) → IsA class.And w → Is sort.Name n → (a : IsOptAtts xs ts (c ∷ us)) → IsA class.Equal c → q ≡ deep_at (n ∷ ts) (opt_atts_levels a)
-      → P.named_atts (n ∷ ts) ≡ unless q (record { name = n.token; atts = xs }) (c ∷ us) → Tail (w ∷ n ∷ ts) q
-  unfolding K.goes_noted K.next_noted K.begins_note K.note_name unless then_
-  named_tail w n c None a h xs e z g = stops (rw (apart law sort.Name (sort.Only class.And) refl w.class a, a, g, e) refl)
+      → P.named_atts (n ∷ ts) ≡ unless_deep q (record { name = n.token; atts = xs }) (c ∷ us) → Tail (w ∷ n ∷ ts) q
+  unfolding K.goes_noted K.next_noted K.begins_note K.note_name then_
+  named_tail w n c None a h xs e z g = stops (rw (law.sets.apart sort.Name (sort.Only class.And) refl w.class a, a, g, e) refl)
   named_tail w n c {ts = ts} (Some p) a h xs e z g =
-      sinks p (rw (apart law sort.Name (sort.Only class.And) refl w.class a, a, g) refl)
-      (rw (a, FR.a_fact_read law (FF.fact {n = n} h FF.no_sels xs) (apart law (sort.Only class.Open) (sort.Only class.Equal) refl c.class e) (apart law (sort.Only class.Left) (sort.Only class.Equal) refl c.class e), ← z) refl)
+      sinks p (rw (law.sets.apart sort.Name (sort.Only class.And) refl w.class a, a, g) refl)
+      (rw (a, law.facts.fact (FF.fact {n = n} h FF.no_sels xs) (law.sets.apart (sort.Only class.Open) (sort.Only class.Equal) refl c.class e) (law.sets.apart (sort.Only class.Left) (sort.Only class.Equal) refl c.class e), ← z) refl)
 
   notes_tail : {gs : List NoteGroup} {ts us : List Lexeme} (d : IsMoreNotes gs ts us) → K.goes_noted us ≡ false → Tail ts (name_place d)
   notes_tail C.no_more_notes g = stops g
   notes_tail (C.more_notes {a = w} a (C.note_group {n = n} {e = c} {ts = ts} h xs e fs) r) g =
-      named_tail w n c (deep_at (n ∷ ts) (opt_atts_levels xs)) a h xs e refl (R.named_atts_read law n h xs (apart law (sort.Only class.Left) (sort.Only class.Equal) refl c.class e))
+      named_tail w n c (deep_at (n ∷ ts) (opt_atts_levels xs)) a h xs e refl (law.props.named_atts n h xs (law.sets.apart (sort.Only class.Left) (sort.Only class.Equal) refl c.class e))
 
   note_group_read : {g : NoteGroup} {ts us : List Lexeme} (q : Option Pos) (d : IsNoteGroup g ts us) → begins (sort.Only class.Open) us ≡ false → begins (sort.Only class.Left) us ≡ false → begins (sort.Only class.Equal) us ≡ false
-      → Tail us q → K.note_group ts ≡ unless (first_of (deep_note_group d) q) g us
+      → Tail us q → K.note_group ts ≡ unless_deep (first_of (deep_note_group d) q) g us
   unfolding K.note_group K.note_name then_
   note_group_read q (C.note_group {n = n} {e = c} {xs = xs} {fs = fs} {ts = ts} {us = us} {vs = vs} h a e f) o l k t =
-      let left : has (sort.Only class.Left) c.class ≡ false = apart law (sort.Only class.Left) (sort.Only class.Equal) refl c.class e in
+      let left : has (sort.Only class.Left) c.class ≡ false = law.sets.apart (sort.Only class.Left) (sort.Only class.Equal) refl c.class e in
       then_unless (deep_at (n ∷ ts) (opt_atts_levels a)) (first_of (deep_facts f) q) (record { name = n.token; atts = xs }) (record { name = Some n.token; atts = xs; facts = fs }) us vs _
-      (then_got (deep_at (n ∷ ts) (opt_atts_levels a)) (record { name = n.token; atts = xs }) (record { name = n.token; atts = xs }) (c ∷ us) us _ (R.named_atts_read law n h a left) (rw e refl))
+      (then_got (deep_at (n ∷ ts) (opt_atts_levels a)) (record { name = n.token; atts = xs }) (record { name = n.token; atts = xs }) (c ∷ us) us _ (law.props.named_atts n h a left) (rw e refl))
       (then_got (first_of (deep_facts f) q) fs (record { name = Some n.token; atts = xs; facts = fs }) vs vs _ (noted_read q f o l k t) refl)
-      ∙ ap (λ z. unless z (record { name = Some n.token; atts = xs; facts = fs }) vs) (sym (first_assoc (deep_at (n ∷ ts) (opt_atts_levels a)) (deep_facts f) q))
+      ∙ ap (λ z. unless_deep z (record { name = Some n.token; atts = xs; facts = fs }) vs) (sym (first_assoc (deep_at (n ∷ ts) (opt_atts_levels a)) (deep_facts f) q))
 
   more_notes_read : {gs : List NoteGroup} {ts us : List Lexeme} (d : IsMoreNotes gs ts us) → begins (sort.Only class.Open) us ≡ false → begins (sort.Only class.Left) us ≡ false → begins (sort.Only class.Equal) us ≡ false
       → K.goes_noted us ≡ false → begins (sort.Only class.And) us ≡ false → (found : List NoteGroup) (steps : List Lexeme) → length ts ≤ length steps
-      → many (begins (sort.Only class.And)) (λ us. K.note_group (behind us)) found steps ts ≡ unless (deep_more_notes d) (found ++ gs) us
-  unfolding many unless
+      → many (begins (sort.Only class.And)) (λ us. K.note_group (behind us)) found steps ts ≡ unless_deep (deep_more_notes d) (found ++ gs) us
+  unfolding many
   more_notes_read {us = us} C.no_more_notes o l k g a found steps b = many_stop (begins (sort.Only class.And)) (λ us. K.note_group (behind us)) found steps us a ∙ ap (λ z. got z us) (sym (append-nil found))
   more_notes_read (C.more_notes h d r) o l k g a found [] b = absurd (omega (arith, b))
   more_notes_read (C.more_notes {g = x} {gs = xs} {us = us} {vs = vs} h d r) o l k g a found (_ ∷ steps) b =
       rw h
       (then_unless (first_of (deep_note_group d) (name_place r)) (deep_more_notes r) x _ us vs _
       (note_group_read (name_place r) d (First.free_IsMoreNotes law (sort.Only class.Open) refl r o) (First.free_IsMoreNotes law (sort.Only class.Left) refl r l) (First.free_IsMoreNotes law (sort.Only class.Equal) refl r k) (notes_tail r g))
-      (more_notes_read r o l k g a (found ++ x ∷ []) steps (omega (arith, b, len_IsNoteGroup d)))
-      ∙ (ap (λ z. unless z ((found ++ x ∷ []) ++ xs) vs) (name_first (deep_note_group d) r) ∙ ap (λ z. unless (first_of (deep_note_group d) (deep_more_notes r)) z vs) (append_assoc found (x ∷ []) xs)))
+      (more_notes_read r o l k g a (found ++ x ∷ []) steps (omega (arith, b, len_IsNoteGroup law d)))
+      ∙ (ap (λ z. unless_deep z ((found ++ x ∷ []) ++ xs) vs) (name_first (deep_note_group d) r) ∙ ap (λ z. unless_deep (first_of (deep_note_group d) (deep_more_notes r)) z vs) (append_assoc found (x ∷ []) xs)))
 
   -- a first group with a name: where the name is too deep, so is the fact of this name
   named_first : (n c : Lexeme) {xs : List Att} {fs : List Fact} {ts us vs : List Lexeme} (p q : Option Pos) (h : Is sort.Name n) (a : IsOptAtts xs ts (c ∷ us)) (e : IsA class.Equal c) (f : IsFacts fs us vs) → p ≡ deep_at (n ∷ ts) (opt_atts_levels a)
-      → P.named_atts (n ∷ ts) ≡ unless p (record { name = n.token; atts = xs }) (c ∷ us) → K.note_group (n ∷ ts) ≡ unless (first_of (first_of p (deep_facts f)) q) (record { name = Some n.token; atts = xs; facts = fs }) vs
-      → K.first_note (n ∷ ts) ≡ unless (first_of (first_of p (deep_facts f)) q) (record { name = Some n.token; atts = xs; facts = fs }) vs
-  unfolding K.first_note K.begins_note K.note_name K.noted unless then_
+      → P.named_atts (n ∷ ts) ≡ unless_deep p (record { name = n.token; atts = xs }) (c ∷ us) → K.note_group (n ∷ ts) ≡ unless_deep (first_of (first_of p (deep_facts f)) q) (record { name = Some n.token; atts = xs; facts = fs }) vs
+      → K.first_note (n ∷ ts) ≡ unless_deep (first_of (first_of p (deep_facts f)) q) (record { name = Some n.token; atts = xs; facts = fs }) vs
+  unfolding K.first_note K.begins_note K.note_name K.noted then_
   named_first n c None q h a e f z g k = rw (g, e) k
   named_first n c {ts = ts} (Some p) q h a e f z g k =
-      rw (g, FR.a_fact_read law (FF.fact {n = n} h FF.no_sels a) (apart law (sort.Only class.Open) (sort.Only class.Equal) refl c.class e) (apart law (sort.Only class.Left) (sort.Only class.Equal) refl c.class e), ← z) refl
+      rw (g, law.facts.fact (FF.fact {n = n} h FF.no_sels a) (law.sets.apart (sort.Only class.Open) (sort.Only class.Equal) refl c.class e) (law.sets.apart (sort.Only class.Left) (sort.Only class.Equal) refl c.class e), ← z) refl
 
-  bare_first : {fs : List Fact} {ts us : List Lexeme} (q : Option Pos) (f : IsFacts fs ts us) → K.begins_note ts ≡ false → K.noted ts ≡ unless (first_of (deep_facts f) q) fs us
-      → K.first_note ts ≡ unless (first_of (deep_facts f) q) (record { name = None; atts = []; facts = fs }) us
+  bare_first : {fs : List Fact} {ts us : List Lexeme} (q : Option Pos) (f : IsFacts fs ts us) → K.begins_note ts ≡ false → K.noted ts ≡ unless_deep (first_of (deep_facts f) q) fs us
+      → K.first_note ts ≡ unless_deep (first_of (deep_facts f) q) (record { name = None; atts = []; facts = fs }) us
   unfolding K.first_note
   bare_first {fs = fs} {us = us} q f n e = rw n (then_got (first_of (deep_facts f) q) fs (record { name = None; atts = []; facts = fs }) us us _ e refl)
 
   no_note_facts : {fs : List Fact} {ts us : List Lexeme} → IsFacts fs ts us → begins (sort.Only class.Left) us ≡ false → begins (sort.Only class.Equal) us ≡ false → K.begins_note ts ≡ false
-  no_note_facts (FF.facts d r) l e = no_note d (First.free_IsMoreFacts law (sort.Only class.Left) refl refl r l) (First.free_IsMoreFacts law (sort.Only class.Equal) refl refl r e)
+  no_note_facts (FF.facts d r) l e = no_note d (law.firsts.more_facts (sort.Only class.Left) refl refl r l) (law.firsts.more_facts (sort.Only class.Equal) refl refl r e)
 
   pub notes_read : {gs : List NoteGroup} {ts us : List Lexeme} (d : IsNotes gs ts us) → begins (sort.Only class.Open) us ≡ false → begins (sort.Only class.Left) us ≡ false → begins (sort.Only class.Equal) us ≡ false
-      → K.goes_noted us ≡ false → begins (sort.Only class.And) us ≡ false → K.notes ts ≡ unless (deep_notes d) gs us
+      → K.goes_noted us ≡ false → begins (sort.Only class.And) us ≡ false → K.notes ts ≡ unless_deep (deep_notes d) gs us
   unfolding K.notes K.more_notes
   notes_read (C.named_notes {g = x} {gs = xs} {us = us} {vs = vs} (C.note_group {n = n} {e = c} {ts = ts} h a e f) r) o l k g b =
       let p : Option Pos = first_of (deep_at (n ∷ ts) (opt_atts_levels a)) (deep_facts f) in
@@ -230,42 +228,42 @@ module _ (law : Law) where
       let left : begins (sort.Only class.Left) us ≡ false = First.free_IsMoreNotes law (sort.Only class.Left) refl r l in
       let equal : begins (sort.Only class.Equal) us ≡ false = First.free_IsMoreNotes law (sort.Only class.Equal) refl r k in
       then_unless (first_of p (name_place r)) (deep_more_notes r) x (x ∷ xs) us vs _
-      (named_first n c (deep_at (n ∷ ts) (opt_atts_levels a)) (name_place r) h a e f refl (R.named_atts_read law n h a (apart law (sort.Only class.Left) (sort.Only class.Equal) refl c.class e))
+      (named_first n c (deep_at (n ∷ ts) (opt_atts_levels a)) (name_place r) h a e f refl (law.props.named_atts n h a (law.sets.apart (sort.Only class.Left) (sort.Only class.Equal) refl c.class e))
       (note_group_read (name_place r) (C.note_group h a e f) open_ left equal (notes_tail r g)))
       (more_notes_read r o l k g b (x ∷ []) us (omega (arith)))
-      ∙ ap (λ z. unless z (x ∷ xs) vs) (name_first p r)
+      ∙ ap (λ z. unless_deep z (x ∷ xs) vs) (name_first p r)
   notes_read (C.bare_notes {fs = fs} {gs = xs} {us = us} {vs = vs} f r) o l k g b =
       let left : begins (sort.Only class.Left) us ≡ false = First.free_IsMoreNotes law (sort.Only class.Left) refl r l in
       let equal : begins (sort.Only class.Equal) us ≡ false = First.free_IsMoreNotes law (sort.Only class.Equal) refl r k in
       then_unless (first_of (deep_facts f) (name_place r)) (deep_more_notes r) (record { name = None; atts = []; facts = fs }) (record { name = None; atts = []; facts = fs } ∷ xs) us vs _
       (bare_first (name_place r) f (no_note_facts f left equal) (noted_read (name_place r) f (First.free_IsMoreNotes law (sort.Only class.Open) refl r o) left equal (notes_tail r g)))
       (more_notes_read r o l k g b (record { name = None; atts = []; facts = fs } ∷ []) us (omega (arith)))
-      ∙ ap (λ z. unless z (record { name = None; atts = []; facts = fs } ∷ xs) vs) (name_first (deep_facts f) r)
+      ∙ ap (λ z. unless_deep z (record { name = None; atts = []; facts = fs } ∷ xs) vs) (name_first (deep_facts f) r)
 
   -- no `::` and no `where` behind the names and `and` with which propositions begin
   ahead_stays : (t : Lexeme) (ts : List Lexeme) → has sort.Identifier t.class ≡ true → K.names_ahead (t ∷ ts) ≡ K.names_ahead ts
   ahead_stays t ts h = rw h refl
 
   ahead_and : (t : Lexeme) (ts : List Lexeme) → IsA class.And t → K.names_ahead (t ∷ ts) ≡ K.names_ahead ts
-  ahead_and t ts h = rw (apart law sort.Identifier (sort.Only class.And) refl t.class h, h) refl
+  ahead_and t ts h = rw (law.sets.apart sort.Identifier (sort.Only class.And) refl t.class h, h) refl
 
   ahead_ends : (t : Lexeme) (ts : List Lexeme) → has sort.Identifier t.class ≡ false → has (sort.Only class.And) t.class ≡ false → has (sort.Only class.Colons) t.class ≡ false → has (sort.Only class.Where) t.class ≡ false → K.names_ahead (t ∷ ts) ≡ false
   ahead_ends t ts i a c w = rw (i, a, c, w) refl
 
   ahead_open : (t : Lexeme) (ts : List Lexeme) → IsA class.Open t → K.names_ahead (t ∷ ts) ≡ false
   ahead_open t ts h =
-      ahead_ends t ts (apart law sort.Identifier (sort.Only class.Open) refl t.class h) (apart law (sort.Only class.And) (sort.Only class.Open) refl t.class h)
-      (apart law (sort.Only class.Colons) (sort.Only class.Open) refl t.class h) (apart law (sort.Only class.Where) (sort.Only class.Open) refl t.class h)
+      ahead_ends t ts (law.sets.apart sort.Identifier (sort.Only class.Open) refl t.class h) (law.sets.apart (sort.Only class.And) (sort.Only class.Open) refl t.class h)
+      (law.sets.apart (sort.Only class.Colons) (sort.Only class.Open) refl t.class h) (law.sets.apart (sort.Only class.Where) (sort.Only class.Open) refl t.class h)
 
   ahead_left : (t : Lexeme) (ts : List Lexeme) → IsA class.Left t → K.names_ahead (t ∷ ts) ≡ false
   ahead_left t ts h =
-      ahead_ends t ts (apart law sort.Identifier (sort.Only class.Left) refl t.class h) (apart law (sort.Only class.And) (sort.Only class.Left) refl t.class h)
-      (apart law (sort.Only class.Colons) (sort.Only class.Left) refl t.class h) (apart law (sort.Only class.Where) (sort.Only class.Left) refl t.class h)
+      ahead_ends t ts (law.sets.apart sort.Identifier (sort.Only class.Left) refl t.class h) (law.sets.apart (sort.Only class.And) (sort.Only class.Left) refl t.class h)
+      (law.sets.apart (sort.Only class.Colons) (sort.Only class.Left) refl t.class h) (law.sets.apart (sort.Only class.Where) (sort.Only class.Left) refl t.class h)
 
   ahead_colon : (t : Lexeme) (ts : List Lexeme) → IsA class.Colon t → K.names_ahead (t ∷ ts) ≡ false
   ahead_colon t ts h =
-      ahead_ends t ts (apart law sort.Identifier (sort.Only class.Colon) refl t.class h) (apart law (sort.Only class.And) (sort.Only class.Colon) refl t.class h)
-      (apart law (sort.Only class.Colons) (sort.Only class.Colon) refl t.class h) (apart law (sort.Only class.Where) (sort.Only class.Colon) refl t.class h)
+      ahead_ends t ts (law.sets.apart sort.Identifier (sort.Only class.Colon) refl t.class h) (law.sets.apart (sort.Only class.And) (sort.Only class.Colon) refl t.class h)
+      (law.sets.apart (sort.Only class.Colons) (sort.Only class.Colon) refl t.class h) (law.sets.apart (sort.Only class.Where) (sort.Only class.Colon) refl t.class h)
 
   -- a term is a name, or ends the names
   ahead_term : (t : Lexeme) (ts : List Lexeme) → Is sort.Term t → K.names_ahead ts ≡ false → K.names_ahead (t ∷ ts) ≡ false
@@ -273,14 +271,14 @@ module _ (law : Law) where
     where
       by_kind : (b : Bool) → has sort.Identifier t.class ≡ b → K.names_ahead (t ∷ ts) ≡ false
       by_kind true i = ahead_stays t ts i ∙ e
-      by_kind false i = ahead_ends t ts i (apart law (sort.Only class.And) sort.Term refl t.class h) (apart law (sort.Only class.Colons) sort.Term refl t.class h) (apart law (sort.Only class.Where) sort.Term refl t.class h)
+      by_kind false i = ahead_ends t ts i (law.sets.apart (sort.Only class.And) sort.Term refl t.class h) (law.sets.apart (sort.Only class.Colons) sort.Term refl t.class h) (law.sets.apart (sort.Only class.Where) sort.Term refl t.class h)
 
   ahead_prop : {p : Prop} {ts us : List Lexeme} → IsProp p ts us → K.names_ahead us ≡ false → K.names_ahead ts ≡ false
   ahead_prop (PF.prop {t = t} {ts = ts} h PF.no_patterns) e = ahead_term t ts h e
   ahead_prop (PF.prop {t = t} h (PF.patterns {a = x} {w = v} {t = y} {ts = ts} a w k xs b)) e = ahead_term t (x ∷ v ∷ y ∷ ts) h (ahead_open x (v ∷ y ∷ ts) a)
 
   ahead_name : (t : Lexeme) (ts : List Lexeme) → Is sort.Name t → K.names_ahead ts ≡ false → K.names_ahead (t ∷ ts) ≡ false
-  ahead_name t ts h e = ahead_term t ts (within law sort.Name sort.Term refl t h) e
+  ahead_name t ts h e = ahead_term t ts (law.sets.within sort.Name sort.Term refl t h) e
 
   ahead_atts : {xs : List Att} {ts us : List Lexeme} → FF.IsAtts xs ts us → K.names_ahead ts ≡ false
   ahead_atts (FF.atts {a = x} {ts = ts} a y r b) = ahead_left x ts a
@@ -311,11 +309,11 @@ module _ (law : Law) where
   ahead_all (one_more {x = x} {ts = ts} h r) e = ahead_stays x ts h ∙ ahead_all r e
 
   ahead_colons : (t : Lexeme) (ts : List Lexeme) → IsA class.Colons t → K.names_ahead (t ∷ ts) ≡ true
-  ahead_colons t ts h = rw (apart law sort.Identifier (sort.Only class.Colons) refl t.class h, apart law (sort.Only class.And) (sort.Only class.Colons) refl t.class h, h) refl
+  ahead_colons t ts h = rw (law.sets.apart sort.Identifier (sort.Only class.Colons) refl t.class h, law.sets.apart (sort.Only class.And) (sort.Only class.Colons) refl t.class h, h) refl
 
   ahead_where : (t : Lexeme) (ts : List Lexeme) → IsA class.Where t → K.names_ahead (t ∷ ts) ≡ true
   ahead_where t ts h =
-      rw (apart law sort.Identifier (sort.Only class.Where) refl t.class h, apart law (sort.Only class.And) (sort.Only class.Where) refl t.class h, apart law (sort.Only class.Colons) (sort.Only class.Where) refl t.class h, h) refl
+      rw (law.sets.apart sort.Identifier (sort.Only class.Where) refl t.class h, law.sets.apart (sort.Only class.And) (sort.Only class.Where) refl t.class h, law.sets.apart (sort.Only class.Colons) (sort.Only class.Where) refl t.class h, h) refl
 
   ahead_type : {t : Option Token} {ts us : List Lexeme} → IsOfType t ts us → K.names_ahead us ≡ true → K.names_ahead ts ≡ true
   ahead_type PF.no_type e = e
@@ -332,13 +330,13 @@ module _ (law : Law) where
   ahead_vars (PF.vars g r) e = ahead_var_group g (ahead_more_vars r e)
 
   pub obtained_read : {o : Obtained} {ts us : List Lexeme} (d : IsObtained o ts us) → K.names_ahead us ≡ false → begins (sort.Only class.Open) us ≡ false → begins sort.Term us ≡ false → begins (sort.Only class.Colon) us ≡ false
-      → begins (sort.Only class.Left) us ≡ false → begins (sort.Only class.And) us ≡ false → K.obtained ts ≡ unless (deep_obtained d) o us
+      → begins (sort.Only class.Left) us ≡ false → begins (sort.Only class.And) us ≡ false → K.obtained ts ≡ unless_deep (deep_obtained d) o us
   unfolding K.obtained then_
-  obtained_read (C.obtained_props {gs = gs} {us = us} d) n o t c e a = rw (ahead_props d n) (then_got (deep_obtained (C.obtained_props d)) gs (record { names = []; props = gs }) us us _ (R.props_read law d o t c e a) refl)
+  obtained_read (C.obtained_props {gs = gs} {us = us} d) n o t c e a = rw (ahead_props d n) (then_got (deep_obtained (C.obtained_props d)) gs (record { names = []; props = gs }) us us _ (law.props.props d o t c e a) refl)
   obtained_read (C.obtained_names {xs = xs} {w = v} {gs = gs} {us = us} {vs = vs} x w d) n o t c e a =
       rw (
         ahead_vars x (ahead_where v us w),
-        R.vars_read law x (apart law (sort.Only class.Colons) (sort.Only class.Where) refl v.class w) (apart law sort.Identifier (sort.Only class.Where) refl v.class w) (apart law (sort.Only class.And) (sort.Only class.Where) refl v.class w),
+        law.names.vars x (law.sets.apart (sort.Only class.Colons) (sort.Only class.Where) refl v.class w) (law.sets.apart sort.Identifier (sort.Only class.Where) refl v.class w) (law.sets.apart (sort.Only class.And) (sort.Only class.Where) refl v.class w),
         w,
       )
-      (then_got (deep_obtained (C.obtained_names x w d)) gs (record { names = xs; props = gs }) vs vs _ (R.props_read law d o t c e a) refl)
+      (then_got (deep_obtained (C.obtained_names x w d)) gs (record { names = xs; props = gs }) vs vs _ (law.props.props d o t c e a) refl)

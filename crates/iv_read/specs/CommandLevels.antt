@@ -8,7 +8,7 @@ use Rattle.iv_forms.specs.declared.command.NoteGroup.{NoteGroup}
 use Rattle.iv_forms.specs.declared.command.Obtained.{Obtained}
 use Rattle.iv_forms.specs.declared.lexeme.Lexeme.{Lexeme}
 use Rattle.iv_forms.specs.CommandForm.{IsAxiom, axiom_is, IsMoreAxioms, no_more_axioms, more_axioms, IsAxioms, no_axioms, axioms, IsAssumes, no_assumes, assumes, IsStatement, short, long, IsNoteGroup, note_group, IsMoreNotes, no_more_notes, more_notes, IsNotes, named_notes, bare_notes, IsObtained, obtained_props, obtained_names}
-use Rattle.iv_read.specs.FactLevels.{opt_atts_levels, deep_at, first_of, deep_facts, deep_opt_label, deep_props}
+use Rattle.iv_facts.specs.FactLevels.{opt_atts_levels, deep_at, first_of, deep_facts, deep_opt_label, deep_props}
 
 abbrev pub deep_axiom : {x : Axiom} {ts us : List Lexeme} → IsAxiom x ts us → Option Pos
 deep_axiom {ts = ts} (axiom_is n a c t) = deep_at ts (opt_atts_levels a)

@@ -13,10 +13,10 @@ use Rattle.iv_forms.specs.declared.command.Statement.TheVariants as VStatement
 use Rattle.iv_forms.specs.declared.command.NoteGroup.{NoteGroup}
 use Rattle.iv_forms.specs.declared.command.Obtained.{Obtained}
 use Rattle.iv_forms.specs.declared.lexeme.Lexeme.{Lexeme}
-use Rattle.iv_read.specs.declared.props.Named.{Named}
-use Rattle.iv_read.specs.Found.{Found, got, wrong, deep, then_, begins, behind, one, many, fold}
-use Rattle.iv_read.specs.Facts.{a_fact}
-use Rattle.iv_read.specs.Props.{text_of, some_of, named_atts, opt_label, prop, props, vars}
+use Rattle.iv_facts.specs.declared.props.Named.{Named}
+use Rattle.iv_facts.specs.Found.{Found, got, wrong, deep, then_, begins, behind, one, many, fold}
+use Rattle.iv_facts.specs.Facts.{a_fact}
+use Rattle.iv_facts.specs.Props.{text_of, some_of, named_atts, opt_label, prop, props, vars}
 
 -- AXIOM
 unfoldable pub an_axiom : List Lexeme → Found Axiom

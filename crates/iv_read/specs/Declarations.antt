@@ -8,7 +8,7 @@ use Rattle.iv_forms.specs.declared.command.Fixity.TheVariants as VFixity
 use Rattle.iv_forms.specs.declared.command.Constant.{Constant}
 use Rattle.iv_forms.specs.declared.command.Equation.{Equation}
 use Rattle.iv_forms.specs.declared.lexeme.Lexeme.{Lexeme}
-use Rattle.iv_read.specs.Found.{Found, got, then_, begins, behind, one, many}
+use Rattle.iv_facts.specs.Found.{Found, got, then_, begins, behind, one, many}
 
 unfoldable pub some_nat : List Lexeme → Found (Option ℕ)
 some_nat ts = if begins sort.Numeral ts then then_ (one sort.Numeral ts) (λ n us. got (Some n.number) us) else got None ts

@@ -12,10 +12,10 @@ use Rattle.iv_forms.specs.declared.command.Body.TheVariants as VBody
 use Rattle.iv_forms.specs.declared.lexeme.Lexeme.{Lexeme}
 use Rattle.iv_read.specs.declared.forms.CommandKind.{CommandKind}
 use Rattle.iv_read.specs.declared.forms.CommandKind.TheVariants as kind
-use Rattle.iv_read.specs.Found.{Found, got, wrong, then_, one}
-use Rattle.iv_read.specs.Facts.{facts}
-use Rattle.iv_read.specs.Props.{text_of, some_of, opt_label, claim, props, of_type, vars, opt_for}
-use Rattle.iv_read.specs.Methods.{a_method, opt_method}
+use Rattle.iv_facts.specs.Found.{Found, got, wrong, then_, one}
+use Rattle.iv_facts.specs.Facts.{facts}
+use Rattle.iv_facts.specs.Props.{text_of, some_of, opt_label, claim, props, of_type, vars, opt_for}
+use Rattle.iv_methods.specs.Methods.{a_method, opt_method}
 use Rattle.iv_read.specs.Commands.{statement, notes, obtained, parts, axioms, note_name}
 use Rattle.iv_read.specs.Declarations.{some_nat, constant, more_consts, axiom_consts, tvars, judgment_form, equation, more_equations}
 

@@ -1,12 +1,6 @@
-pub mod Found
-pub mod FactLevels
-pub mod Facts
-pub mod Props
-pub mod Patterns
-pub mod Methods
-pub mod MethodLevels
 pub mod Declarations
 pub mod Commands
 pub mod CommandLevels
 pub mod Forms
 pub mod FormLevels
+pub mod Laws

@@ -1,13 +1,13 @@
 //! Axioms, the parts of `method`, statements, notes, and what is obtained.
 ghost use Rattle.std.specs.Prelude.{◌≡◌, [], ◌∷◌, IfOk, IfErr};
-ghost use Rattle.iv_read.specs.Found.{got, IsStop};
-ghost use Rattle.iv_read.specs.declared.stop.Stop.TheVariants.{Memory};
+ghost use Rattle.iv_facts.specs.Found.{got, IsStop};
+ghost use Rattle.iv_facts.specs.declared.stop.Stop.TheVariants.{Memory};
 ghost use Rattle.iv_read.specs.Commands.{an_axiom, more_axioms, axioms, begins_part, part, parts, fixes, assumes, begins_long, statement, note_name, begins_note, goes_noted, next_noted, more_noted, noted, note_group, first_note, more_notes, notes, names_ahead, obtained};
 
-use crate::facts::a_fact;
-use crate::props::{Named, named_atts, opt_label, prop, props, some_of, text_of, vars};
-use crate::stop::Stop;
-use crate::tokens::{begins, behind, one};
+use iv_facts::Stop;
+use iv_facts::facts::a_fact;
+use iv_facts::props::{Named, named_atts, opt_label, prop, props, some_of, text_of, vars};
+use iv_facts::tokens::{begins, behind, one};
 use iv_forms::{
     Axiom, Fact, Group, Items, Lexeme, NoteGroup, Obtained, Parts, Statement, VarGroup,
 };
@@ -15,7 +15,7 @@ use iv_gram::{Class, Sort};
 use std::alloc::Global;
 
 /// An axiom.
-#[tactic(auto, using(crate::proofs::Steps::stopped, crate::proofs::Steps::went_on), unfolding(crate::specs::Commands::an_axiom, crate::specs::Found::then_))]
+#[tactic(auto, using(iv_facts::proofs::Steps::stopped, iv_facts::proofs::Steps::went_on), unfolding(crate::specs::Commands::an_axiom, iv_facts::specs::Found::then_))]
 fn an_axiom(alloc: Global, tokens: &[Lexeme]) -> Result<(Axiom, &[Lexeme]), Stop>
     ensures ok { IfOk result (λ r. an_axiom tokens.now ≡ got r.0 r.1.now) }
     ensures err { IfErr result (λ e. IsStop e (an_axiom tokens.now)) }
@@ -32,7 +32,7 @@ fn an_axiom(alloc: Global, tokens: &[Lexeme]) -> Result<(Axiom, &[Lexeme]), Stop
 }
 
 /// Further axioms, each behind `and`.
-#[tactic(auto, using(crate::proofs::Steps::many_next, crate::proofs::Steps::many_stop, crate::proofs::Steps::many_end, crate::proofs::Steps::many_stopped), unfolding(crate::specs::Commands::more_axioms))]
+#[tactic(auto, using(iv_facts::proofs::Steps::many_next, iv_facts::proofs::Steps::many_stop, iv_facts::proofs::Steps::many_end, iv_facts::proofs::Steps::many_stopped), unfolding(crate::specs::Commands::more_axioms))]
 fn more_axioms<'a>(
     alloc: Global,
     tokens: &'a [Lexeme],
@@ -54,7 +54,7 @@ fn more_axioms<'a>(
 }
 
 /// The axioms of `axiomatization`, or none.
-#[tactic(auto, using(crate::proofs::Steps::stopped, crate::proofs::Steps::went_on), unfolding(crate::specs::Commands::axioms, crate::specs::Found::then_))]
+#[tactic(auto, using(iv_facts::proofs::Steps::stopped, iv_facts::proofs::Steps::went_on), unfolding(crate::specs::Commands::axioms, iv_facts::specs::Found::then_))]
 pub(crate) fn axioms(alloc: Global, tokens: &[Lexeme]) -> Result<(Items<Axiom>, &[Lexeme]), Stop>
     ensures ok { IfOk result (λ r. axioms tokens.now ≡ got r.0 r.1.now) }
     ensures err { IfErr result (λ e. IsStop e (axioms tokens.now)) }
@@ -80,7 +80,7 @@ fn begins_part(tokens: &[Lexeme]) -> bool
 }
 
 /// One more part of `method`.
-#[tactic(auto, using(crate::proofs::Steps::stopped, crate::proofs::Steps::went_on), unfolding(crate::specs::Commands::part, crate::specs::Found::then_))]
+#[tactic(auto, using(iv_facts::proofs::Steps::stopped, iv_facts::proofs::Steps::went_on), unfolding(crate::specs::Commands::part, iv_facts::specs::Found::then_))]
 fn part(alloc: Global, parts: Parts, tokens: &[Lexeme]) -> Result<(Parts, &[Lexeme]), Stop>
     ensures ok { IfOk result (λ r. part parts tokens.now ≡ got r.0 r.1.now) }
     ensures err { IfErr result (λ e. IsStop e (part parts tokens.now)) }
@@ -116,7 +116,7 @@ fn part(alloc: Global, parts: Parts, tokens: &[Lexeme]) -> Result<(Parts, &[Lexe
 }
 
 /// The parts of `method`.
-#[tactic(auto, using(crate::proofs::Steps::fold_next, crate::proofs::Steps::fold_stop, crate::proofs::Steps::fold_end, crate::proofs::Steps::fold_stopped), unfolding(crate::specs::Commands::parts))]
+#[tactic(auto, using(iv_facts::proofs::Steps::fold_next, iv_facts::proofs::Steps::fold_stop, iv_facts::proofs::Steps::fold_end, iv_facts::proofs::Steps::fold_stopped), unfolding(crate::specs::Commands::parts))]
 pub(crate) fn parts(alloc: Global, tokens: &[Lexeme]) -> Result<(Parts, &[Lexeme]), Stop>
     ensures ok { IfOk result (λ r. parts tokens.now ≡ got r.0 r.1.now) }
     ensures err { IfErr result (λ e. IsStop e (parts tokens.now)) }
@@ -139,7 +139,7 @@ pub(crate) fn parts(alloc: Global, tokens: &[Lexeme]) -> Result<(Parts, &[Lexeme
 }
 
 /// The names that a lemma fixes, or none.
-#[tactic(auto, using(crate::proofs::Steps::stopped, crate::proofs::Steps::went_on), unfolding(crate::specs::Commands::fixes, crate::specs::Found::then_))]
+#[tactic(auto, using(iv_facts::proofs::Steps::stopped, iv_facts::proofs::Steps::went_on), unfolding(crate::specs::Commands::fixes, iv_facts::specs::Found::then_))]
 fn fixes(alloc: Global, tokens: &[Lexeme]) -> Result<(Items<VarGroup>, &[Lexeme]), Stop>
     ensures ok { IfOk result (λ r. fixes tokens.now ≡ got r.0 r.1.now) }
     ensures err { IfErr result (λ e. IsStop e (fixes tokens.now)) }
@@ -152,7 +152,7 @@ fn fixes(alloc: Global, tokens: &[Lexeme]) -> Result<(Items<VarGroup>, &[Lexeme]
 }
 
 /// What a lemma assumes, or nothing.
-#[tactic(auto, using(crate::proofs::Steps::stopped, crate::proofs::Steps::went_on), unfolding(crate::specs::Commands::assumes, crate::specs::Found::then_))]
+#[tactic(auto, using(iv_facts::proofs::Steps::stopped, iv_facts::proofs::Steps::went_on), unfolding(crate::specs::Commands::assumes, iv_facts::specs::Found::then_))]
 fn assumes(alloc: Global, tokens: &[Lexeme]) -> Result<(Items<Group>, &[Lexeme]), Stop>
     ensures ok { IfOk result (λ r. assumes tokens.now ≡ got r.0 r.1.now) }
     ensures err { IfErr result (λ e. IsStop e (assumes tokens.now)) }
@@ -175,7 +175,7 @@ fn begins_long(tokens: &[Lexeme]) -> bool
 }
 
 /// What a lemma states.
-#[tactic(auto, using(crate::proofs::Steps::stopped, crate::proofs::Steps::went_on), unfolding(crate::specs::Commands::statement, crate::specs::Found::then_))]
+#[tactic(auto, using(iv_facts::proofs::Steps::stopped, iv_facts::proofs::Steps::went_on), unfolding(crate::specs::Commands::statement, iv_facts::specs::Found::then_))]
 pub(crate) fn statement(alloc: Global, tokens: &[Lexeme]) -> Result<(Statement, &[Lexeme]), Stop>
     ensures ok { IfOk result (λ r. statement tokens.now ≡ got r.0 r.1.now) }
     ensures err { IfErr result (λ e. IsStop e (statement tokens.now)) }
@@ -193,7 +193,7 @@ pub(crate) fn statement(alloc: Global, tokens: &[Lexeme]) -> Result<(Statement, 
 }
 
 /// A name with attributes, and `=`.
-#[tactic(auto, using(crate::proofs::Steps::stopped, crate::proofs::Steps::went_on), unfolding(crate::specs::Commands::note_name, crate::specs::Found::then_))]
+#[tactic(auto, using(iv_facts::proofs::Steps::stopped, iv_facts::proofs::Steps::went_on), unfolding(crate::specs::Commands::note_name, iv_facts::specs::Found::then_))]
 pub(crate) fn note_name(alloc: Global, tokens: &[Lexeme]) -> Result<(Named, &[Lexeme]), Stop>
     ensures ok { IfOk result (λ r. note_name tokens.now ≡ got r.0 r.1.now) }
     ensures err { IfErr result (λ e. IsStop e (note_name tokens.now)) }
@@ -233,7 +233,7 @@ fn goes_noted(alloc: Global, tokens: &[Lexeme]) -> Result<bool, Stop>
 }
 
 /// The next fact, behind `and` or not.
-#[tactic(auto, using(crate::proofs::Steps::stopped, crate::proofs::Steps::went_on), unfolding(crate::specs::Commands::next_noted, crate::specs::Found::then_))]
+#[tactic(auto, using(iv_facts::proofs::Steps::stopped, iv_facts::proofs::Steps::went_on), unfolding(crate::specs::Commands::next_noted, iv_facts::specs::Found::then_))]
 fn next_noted(alloc: Global, tokens: &[Lexeme]) -> Result<(Fact, &[Lexeme]), Stop>
     ensures ok { IfOk result (λ r. next_noted tokens.now ≡ got r.0 r.1.now) }
     ensures err { IfErr result (λ e. IsStop e (next_noted tokens.now)) }
@@ -246,7 +246,7 @@ fn next_noted(alloc: Global, tokens: &[Lexeme]) -> Result<(Fact, &[Lexeme]), Sto
 }
 
 /// Further facts of a note.
-#[tactic(auto, using(crate::proofs::Steps::many_next, crate::proofs::Steps::many_stop, crate::proofs::Steps::many_end, crate::proofs::Steps::many_stopped), unfolding(crate::specs::Commands::more_noted))]
+#[tactic(auto, using(iv_facts::proofs::Steps::many_next, iv_facts::proofs::Steps::many_stop, iv_facts::proofs::Steps::many_end, iv_facts::proofs::Steps::many_stopped), unfolding(crate::specs::Commands::more_noted))]
 fn more_noted<'a>(
     alloc: Global,
     tokens: &'a [Lexeme],
@@ -268,7 +268,7 @@ fn more_noted<'a>(
 }
 
 /// The facts of a note.
-#[tactic(auto, using(crate::proofs::Steps::stopped, crate::proofs::Steps::went_on), unfolding(crate::specs::Commands::noted, crate::specs::Found::then_))]
+#[tactic(auto, using(iv_facts::proofs::Steps::stopped, iv_facts::proofs::Steps::went_on), unfolding(crate::specs::Commands::noted, iv_facts::specs::Found::then_))]
 fn noted(alloc: Global, tokens: &[Lexeme]) -> Result<(Items<Fact>, &[Lexeme]), Stop>
     ensures ok { IfOk result (λ r. noted tokens.now ≡ got r.0 r.1.now) }
     ensures err { IfErr result (λ e. IsStop e (noted tokens.now)) }
@@ -281,7 +281,7 @@ fn noted(alloc: Global, tokens: &[Lexeme]) -> Result<(Items<Fact>, &[Lexeme]), S
 }
 
 /// Facts under a name.
-#[tactic(auto, using(crate::proofs::Steps::stopped, crate::proofs::Steps::went_on), unfolding(crate::specs::Commands::note_group, crate::specs::Found::then_))]
+#[tactic(auto, using(iv_facts::proofs::Steps::stopped, iv_facts::proofs::Steps::went_on), unfolding(crate::specs::Commands::note_group, iv_facts::specs::Found::then_))]
 fn note_group(alloc: Global, tokens: &[Lexeme]) -> Result<(NoteGroup, &[Lexeme]), Stop>
     ensures ok { IfOk result (λ r. note_group tokens.now ≡ got r.0 r.1.now) }
     ensures err { IfErr result (λ e. IsStop e (note_group tokens.now)) }
@@ -297,7 +297,7 @@ fn note_group(alloc: Global, tokens: &[Lexeme]) -> Result<(NoteGroup, &[Lexeme])
 }
 
 /// The first facts of a note, which need no name.
-#[tactic(auto, using(crate::proofs::Steps::stopped, crate::proofs::Steps::went_on), unfolding(crate::specs::Commands::first_note, crate::specs::Found::then_))]
+#[tactic(auto, using(iv_facts::proofs::Steps::stopped, iv_facts::proofs::Steps::went_on), unfolding(crate::specs::Commands::first_note, iv_facts::specs::Found::then_))]
 fn first_note(alloc: Global, tokens: &[Lexeme]) -> Result<(NoteGroup, &[Lexeme]), Stop>
     ensures ok { IfOk result (λ r. first_note tokens.now ≡ got r.0 r.1.now) }
     ensures err { IfErr result (λ e. IsStop e (first_note tokens.now)) }
@@ -315,7 +315,7 @@ fn first_note(alloc: Global, tokens: &[Lexeme]) -> Result<(NoteGroup, &[Lexeme])
 }
 
 /// Further groups of facts, each behind `and`.
-#[tactic(auto, using(crate::proofs::Steps::many_next, crate::proofs::Steps::many_stop, crate::proofs::Steps::many_end, crate::proofs::Steps::many_stopped), unfolding(crate::specs::Commands::more_notes))]
+#[tactic(auto, using(iv_facts::proofs::Steps::many_next, iv_facts::proofs::Steps::many_stop, iv_facts::proofs::Steps::many_end, iv_facts::proofs::Steps::many_stopped), unfolding(crate::specs::Commands::more_notes))]
 fn more_notes<'a>(
     alloc: Global,
     tokens: &'a [Lexeme],
@@ -337,7 +337,7 @@ fn more_notes<'a>(
 }
 
 /// The groups of facts of a note.
-#[tactic(auto, using(crate::proofs::Steps::stopped, crate::proofs::Steps::went_on), unfolding(crate::specs::Commands::notes, crate::specs::Found::then_))]
+#[tactic(auto, using(iv_facts::proofs::Steps::stopped, iv_facts::proofs::Steps::went_on), unfolding(crate::specs::Commands::notes, iv_facts::specs::Found::then_))]
 pub(crate) fn notes(alloc: Global, tokens: &[Lexeme]) -> Result<(Items<NoteGroup>, &[Lexeme]), Stop>
     ensures ok { IfOk result (λ r. notes tokens.now ≡ got r.0 r.1.now) }
     ensures err { IfErr result (λ e. IsStop e (notes tokens.now)) }
@@ -364,7 +364,7 @@ fn names_ahead(tokens: &[Lexeme]) -> bool
 }
 
 /// What is obtained.
-#[tactic(auto, using(crate::proofs::Steps::stopped, crate::proofs::Steps::went_on), unfolding(crate::specs::Commands::obtained, crate::specs::Found::then_))]
+#[tactic(auto, using(iv_facts::proofs::Steps::stopped, iv_facts::proofs::Steps::went_on), unfolding(crate::specs::Commands::obtained, iv_facts::specs::Found::then_))]
 pub(crate) fn obtained(alloc: Global, tokens: &[Lexeme]) -> Result<(Obtained, &[Lexeme]), Stop>
     ensures ok { IfOk result (λ r. obtained tokens.now ≡ got r.0 r.1.now) }
     ensures err { IfErr result (λ e. IsStop e (obtained tokens.now)) }

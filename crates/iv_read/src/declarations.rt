@@ -1,17 +1,17 @@
 //! Declarations of constants, axioms and types.
 ghost use Rattle.std.specs.Prelude.{◌≡◌, [], ◌∷◌, IfOk, IfErr};
-ghost use Rattle.iv_read.specs.Found.{got, IsStop};
+ghost use Rattle.iv_facts.specs.Found.{got, IsStop};
 ghost use Rattle.iv_read.specs.Declarations.{some_nat, infix_parts, binder_parts, priorities, fixity, fix, constant, more_consts, and_consts, axiom_consts, tvar, more_tvars, tvars, judgment_form, equation, more_equations};
 
-use crate::stop::Stop;
-use crate::tokens::{begins, behind, copied, one, skip};
+use iv_facts::Stop;
+use iv_facts::tokens::{begins, behind, copied, one, skip};
 use iv_forms::{Constant, Equation, Fixity, Items, Lexeme};
 use iv_gram::{Class, Sort};
 use iv_lex::Token;
 use std::alloc::Global;
 
 /// A number, or none.
-#[tactic(auto, using(crate::proofs::Steps::stopped, crate::proofs::Steps::went_on), unfolding(crate::specs::Declarations::some_nat, crate::specs::Found::then_))]
+#[tactic(auto, using(iv_facts::proofs::Steps::stopped, iv_facts::proofs::Steps::went_on), unfolding(crate::specs::Declarations::some_nat, iv_facts::specs::Found::then_))]
 pub(crate) fn some_nat(tokens: &[Lexeme]) -> Result<(Option<u32>, &[Lexeme]), Stop>
     ensures ok { IfOk result (λ r. some_nat tokens.now ≡ got r.0 r.1.now) }
     ensures err { IfErr result (λ e. IsStop e (some_nat tokens.now)) }
@@ -24,7 +24,7 @@ pub(crate) fn some_nat(tokens: &[Lexeme]) -> Result<(Option<u32>, &[Lexeme]), St
 }
 
 /// A symbol and the priority of an infix form.
-#[tactic(auto, using(crate::proofs::Steps::stopped, crate::proofs::Steps::went_on), unfolding(crate::specs::Declarations::infix_parts, crate::specs::Found::then_))]
+#[tactic(auto, using(iv_facts::proofs::Steps::stopped, iv_facts::proofs::Steps::went_on), unfolding(crate::specs::Declarations::infix_parts, iv_facts::specs::Found::then_))]
 fn infix_parts(tokens: &[Lexeme]) -> Result<((Token, u32), &[Lexeme]), Stop>
     ensures ok { IfOk result (λ r. infix_parts tokens.now ≡ got r.0 r.1.now) }
     ensures err { IfErr result (λ e. IsStop e (infix_parts tokens.now)) }
@@ -35,7 +35,7 @@ fn infix_parts(tokens: &[Lexeme]) -> Result<((Token, u32), &[Lexeme]), Stop>
 }
 
 /// A symbol and the priority of a binder.
-#[tactic(auto, using(crate::proofs::Steps::stopped, crate::proofs::Steps::went_on), unfolding(crate::specs::Declarations::binder_parts, crate::specs::Found::then_))]
+#[tactic(auto, using(iv_facts::proofs::Steps::stopped, iv_facts::proofs::Steps::went_on), unfolding(crate::specs::Declarations::binder_parts, iv_facts::specs::Found::then_))]
 fn binder_parts(tokens: &[Lexeme]) -> Result<((Token, u32), &[Lexeme]), Stop>
     ensures ok { IfOk result (λ r. binder_parts tokens.now ≡ got r.0 r.1.now) }
     ensures err { IfErr result (λ e. IsStop e (binder_parts tokens.now)) }
@@ -46,7 +46,7 @@ fn binder_parts(tokens: &[Lexeme]) -> Result<((Token, u32), &[Lexeme]), Stop>
 }
 
 /// The priorities behind a prefix symbol: of its place, and its own.
-#[tactic(auto, using(crate::proofs::Steps::stopped, crate::proofs::Steps::went_on), unfolding(crate::specs::Declarations::priorities, crate::specs::Found::then_))]
+#[tactic(auto, using(iv_facts::proofs::Steps::stopped, iv_facts::proofs::Steps::went_on), unfolding(crate::specs::Declarations::priorities, iv_facts::specs::Found::then_))]
 fn priorities(tokens: &[Lexeme]) -> Result<((u32, u32), &[Lexeme]), Stop>
     ensures ok { IfOk result (λ r. priorities tokens.now ≡ got r.0 r.1.now) }
     ensures err { IfErr result (λ e. IsStop e (priorities tokens.now)) }
@@ -59,7 +59,7 @@ fn priorities(tokens: &[Lexeme]) -> Result<((u32, u32), &[Lexeme]), Stop>
 }
 
 /// How a constant is written, inside the parentheses.
-#[tactic(auto, using(crate::proofs::Steps::stopped, crate::proofs::Steps::went_on), unfolding(crate::specs::Declarations::fixity, crate::specs::Found::then_))]
+#[tactic(auto, using(iv_facts::proofs::Steps::stopped, iv_facts::proofs::Steps::went_on), unfolding(crate::specs::Declarations::fixity, iv_facts::specs::Found::then_))]
 fn fixity(tokens: &[Lexeme]) -> Result<(Fixity, &[Lexeme]), Stop>
     ensures ok { IfOk result (λ r. fixity tokens.now ≡ got r.0 r.1.now) }
     ensures err { IfErr result (λ e. IsStop e (fixity tokens.now)) }
@@ -90,7 +90,7 @@ fn fixity(tokens: &[Lexeme]) -> Result<(Fixity, &[Lexeme]), Stop>
 }
 
 /// How a constant is written, or nothing.
-#[tactic(auto, using(crate::proofs::Steps::stopped, crate::proofs::Steps::went_on), unfolding(crate::specs::Declarations::fix, crate::specs::Found::then_))]
+#[tactic(auto, using(iv_facts::proofs::Steps::stopped, iv_facts::proofs::Steps::went_on), unfolding(crate::specs::Declarations::fix, iv_facts::specs::Found::then_))]
 fn fix(tokens: &[Lexeme]) -> Result<(Fixity, &[Lexeme]), Stop>
     ensures ok { IfOk result (λ r. fix tokens.now ≡ got r.0 r.1.now) }
     ensures err { IfErr result (λ e. IsStop e (fix tokens.now)) }
@@ -106,7 +106,7 @@ fn fix(tokens: &[Lexeme]) -> Result<(Fixity, &[Lexeme]), Stop>
 }
 
 /// A constant with its type.
-#[tactic(auto, using(crate::proofs::Steps::stopped, crate::proofs::Steps::went_on), unfolding(crate::specs::Declarations::constant, crate::specs::Found::then_))]
+#[tactic(auto, using(iv_facts::proofs::Steps::stopped, iv_facts::proofs::Steps::went_on), unfolding(crate::specs::Declarations::constant, iv_facts::specs::Found::then_))]
 pub(crate) fn constant(tokens: &[Lexeme]) -> Result<(Constant, &[Lexeme]), Stop>
     ensures ok { IfOk result (λ r. constant tokens.now ≡ got r.0 r.1.now) }
     ensures err { IfErr result (λ e. IsStop e (constant tokens.now)) }
@@ -124,7 +124,7 @@ pub(crate) fn constant(tokens: &[Lexeme]) -> Result<(Constant, &[Lexeme]), Stop>
 }
 
 /// Further constants behind those that are there.
-#[tactic(auto, using(crate::proofs::Steps::many_next, crate::proofs::Steps::many_stop, crate::proofs::Steps::many_end, crate::proofs::Steps::many_stopped), unfolding(crate::specs::Declarations::more_consts))]
+#[tactic(auto, using(iv_facts::proofs::Steps::many_next, iv_facts::proofs::Steps::many_stop, iv_facts::proofs::Steps::many_end, iv_facts::proofs::Steps::many_stopped), unfolding(crate::specs::Declarations::more_consts))]
 pub(crate) fn more_consts<'a>(
     tokens: &'a [Lexeme],
     found: &mut Items<Constant>,
@@ -145,7 +145,7 @@ pub(crate) fn more_consts<'a>(
 }
 
 /// Further constants, each behind `and`.
-#[tactic(auto, using(crate::proofs::Steps::many_next, crate::proofs::Steps::many_stop, crate::proofs::Steps::many_end, crate::proofs::Steps::many_stopped), unfolding(crate::specs::Declarations::and_consts))]
+#[tactic(auto, using(iv_facts::proofs::Steps::many_next, iv_facts::proofs::Steps::many_stop, iv_facts::proofs::Steps::many_end, iv_facts::proofs::Steps::many_stopped), unfolding(crate::specs::Declarations::and_consts))]
 fn and_consts<'a>(tokens: &'a [Lexeme], found: &mut Items<Constant>) -> Result<&'a [Lexeme], Stop>
     ensures ok { IfOk result (λ r. and_consts found.old tokens.now ≡ got found.new r.now) }
     ensures err { IfErr result (λ e. IsStop e (and_consts found.old tokens.now)) }
@@ -163,7 +163,7 @@ fn and_consts<'a>(tokens: &'a [Lexeme], found: &mut Items<Constant>) -> Result<&
 }
 
 /// The constants of `axiomatization`, or none.
-#[tactic(auto, using(crate::proofs::Steps::stopped, crate::proofs::Steps::went_on), unfolding(crate::specs::Declarations::axiom_consts, crate::specs::Found::then_))]
+#[tactic(auto, using(iv_facts::proofs::Steps::stopped, iv_facts::proofs::Steps::went_on), unfolding(crate::specs::Declarations::axiom_consts, iv_facts::specs::Found::then_))]
 pub(crate) fn axiom_consts(
     alloc: Global,
     tokens: &[Lexeme],
@@ -182,7 +182,7 @@ pub(crate) fn axiom_consts(
 }
 
 /// A type variable.
-#[tactic(auto, using(crate::proofs::Steps::stopped, crate::proofs::Steps::went_on), unfolding(crate::specs::Declarations::tvar, crate::specs::Found::then_))]
+#[tactic(auto, using(iv_facts::proofs::Steps::stopped, iv_facts::proofs::Steps::went_on), unfolding(crate::specs::Declarations::tvar, iv_facts::specs::Found::then_))]
 fn tvar(tokens: &[Lexeme]) -> Result<(Token, &[Lexeme]), Stop>
     ensures ok { IfOk result (λ r. tvar tokens.now ≡ got r.0 r.1.now) }
     ensures err { IfErr result (λ e. IsStop e (tvar tokens.now)) }
@@ -192,7 +192,7 @@ fn tvar(tokens: &[Lexeme]) -> Result<(Token, &[Lexeme]), Stop>
 }
 
 /// Further type variables, each behind a comma.
-#[tactic(auto, using(crate::proofs::Steps::many_next, crate::proofs::Steps::many_stop, crate::proofs::Steps::many_end, crate::proofs::Steps::many_stopped), unfolding(crate::specs::Declarations::more_tvars))]
+#[tactic(auto, using(iv_facts::proofs::Steps::many_next, iv_facts::proofs::Steps::many_stop, iv_facts::proofs::Steps::many_end, iv_facts::proofs::Steps::many_stopped), unfolding(crate::specs::Declarations::more_tvars))]
 fn more_tvars<'a>(tokens: &'a [Lexeme], found: &mut Items<Token>) -> Result<&'a [Lexeme], Stop>
     ensures ok { IfOk result (λ r. more_tvars found.old tokens.now ≡ got found.new r.now) }
     ensures err { IfErr result (λ e. IsStop e (more_tvars found.old tokens.now)) }
@@ -210,7 +210,7 @@ fn more_tvars<'a>(tokens: &'a [Lexeme], found: &mut Items<Token>) -> Result<&'a 
 }
 
 /// The parameters of a type: none, one, or some in parentheses.
-#[tactic(auto, using(crate::proofs::Steps::stopped, crate::proofs::Steps::went_on), unfolding(crate::specs::Declarations::tvars, crate::specs::Found::then_))]
+#[tactic(auto, using(iv_facts::proofs::Steps::stopped, iv_facts::proofs::Steps::went_on), unfolding(crate::specs::Declarations::tvars, iv_facts::specs::Found::then_))]
 pub(crate) fn tvars(alloc: Global, tokens: &[Lexeme]) -> Result<(Items<Token>, &[Lexeme]), Stop>
     ensures ok { IfOk result (λ r. tvars tokens.now ≡ got r.0 r.1.now) }
     ensures err { IfErr result (λ e. IsStop e (tvars tokens.now)) }
@@ -234,7 +234,7 @@ pub(crate) fn tvars(alloc: Global, tokens: &[Lexeme]) -> Result<(Items<Token>, &
 }
 
 /// The form of a judgment, which has no effect, or none.
-#[tactic(auto, using(crate::proofs::Steps::stopped, crate::proofs::Steps::went_on), unfolding(crate::specs::Declarations::judgment_form, crate::specs::Found::then_))]
+#[tactic(auto, using(iv_facts::proofs::Steps::stopped, iv_facts::proofs::Steps::went_on), unfolding(crate::specs::Declarations::judgment_form, iv_facts::specs::Found::then_))]
 pub(crate) fn judgment_form(tokens: &[Lexeme]) -> Result<&[Lexeme], Stop>
     ensures ok { IfOk result (λ r. judgment_form tokens.now ≡ got tt r.now) }
     ensures err { IfErr result (λ e. IsStop e (judgment_form tokens.now)) }
@@ -251,7 +251,7 @@ pub(crate) fn judgment_form(tokens: &[Lexeme]) -> Result<&[Lexeme], Stop>
 }
 
 /// A pattern and what it is matched with.
-#[tactic(auto, using(crate::proofs::Steps::stopped, crate::proofs::Steps::went_on), unfolding(crate::specs::Declarations::equation, crate::specs::Found::then_))]
+#[tactic(auto, using(iv_facts::proofs::Steps::stopped, iv_facts::proofs::Steps::went_on), unfolding(crate::specs::Declarations::equation, iv_facts::specs::Found::then_))]
 pub(crate) fn equation(tokens: &[Lexeme]) -> Result<(Equation, &[Lexeme]), Stop>
     ensures ok { IfOk result (λ r. equation tokens.now ≡ got r.0 r.1.now) }
     ensures err { IfErr result (λ e. IsStop e (equation tokens.now)) }
@@ -267,7 +267,7 @@ pub(crate) fn equation(tokens: &[Lexeme]) -> Result<(Equation, &[Lexeme]), Stop>
 }
 
 /// Further equations, each behind `and`.
-#[tactic(auto, using(crate::proofs::Steps::many_next, crate::proofs::Steps::many_stop, crate::proofs::Steps::many_end, crate::proofs::Steps::many_stopped), unfolding(crate::specs::Declarations::more_equations))]
+#[tactic(auto, using(iv_facts::proofs::Steps::many_next, iv_facts::proofs::Steps::many_stop, iv_facts::proofs::Steps::many_end, iv_facts::proofs::Steps::many_stopped), unfolding(crate::specs::Declarations::more_equations))]
 pub(crate) fn more_equations<'a>(
     tokens: &'a [Lexeme],
     found: &mut Items<Equation>,

@@ -1,9 +1,9 @@
 //! Commands, by their words.
 ghost use Rattle.std.specs.Prelude.{◌≡◌, IfOk, IfErr};
-ghost use Rattle.iv_read.specs.Found.{got, wrong, then_, IsStop};
+ghost use Rattle.iv_facts.specs.Found.{got, wrong, then_, IsStop};
 ghost use Rattle.iv_gram.specs.declared.class.Sort.TheVariants.{Quoted};
-ghost use Rattle.iv_read.specs.Facts.{facts};
-ghost use Rattle.iv_read.specs.Props.{claim, text_of};
+ghost use Rattle.iv_facts.specs.Facts.{facts};
+ghost use Rattle.iv_facts.specs.Props.{claim, text_of};
 ghost use Rattle.iv_read.specs.Commands.{statement};
 ghost use Rattle.iv_read.specs.Forms.{theory, typedecl, consts, judgment, axiomatization, lemmas, method_definition, define, let_, by, text_body, facts_body, claim_body, statement_body, word_body, kind_of, declaration_form, context_form, proof_form, by_class, form};
 
@@ -11,18 +11,18 @@ use crate::commands::{axioms, note_name, notes, obtained, parts, statement};
 use crate::declarations::{
     axiom_consts, constant, equation, judgment_form, more_consts, more_equations, some_nat, tvars,
 };
-use crate::facts::facts;
-use crate::methods::{a_method, opt_method};
-use crate::props::{claim, of_type, opt_for, opt_label, props, some_of, text_of, vars};
-use crate::stop::Stop;
-use crate::tokens::one;
+use iv_facts::Stop;
+use iv_facts::facts::facts;
+use iv_facts::props::{claim, of_type, opt_for, opt_label, props, some_of, text_of, vars};
+use iv_facts::tokens::one;
 use iv_forms::{Body, Claim, Fact, Items, Lexeme, Statement};
 use iv_gram::{Class, Sort};
 use iv_lex::Token;
+use iv_methods::methods::{a_method, opt_method};
 use std::alloc::Global;
 
 /// The header, behind its word.
-#[tactic(auto, using(crate::proofs::Steps::stopped, crate::proofs::Steps::went_on), unfolding(crate::specs::Forms::theory, crate::specs::Found::then_))]
+#[tactic(auto, using(iv_facts::proofs::Steps::stopped, iv_facts::proofs::Steps::went_on), unfolding(crate::specs::Forms::theory, iv_facts::specs::Found::then_))]
 fn theory(alloc: Global, tokens: &[Lexeme]) -> Result<(Body, &[Lexeme]), Stop>
     ensures ok { IfOk result (λ r. theory tokens.now ≡ got r.0 r.1.now) }
     ensures err { IfErr result (λ e. IsStop e (theory tokens.now)) }
@@ -35,7 +35,7 @@ fn theory(alloc: Global, tokens: &[Lexeme]) -> Result<(Body, &[Lexeme]), Stop>
 }
 
 /// A type declaration, behind its word.
-#[tactic(auto, using(crate::proofs::Steps::stopped, crate::proofs::Steps::went_on), unfolding(crate::specs::Forms::typedecl, crate::specs::Found::then_))]
+#[tactic(auto, using(iv_facts::proofs::Steps::stopped, iv_facts::proofs::Steps::went_on), unfolding(crate::specs::Forms::typedecl, iv_facts::specs::Found::then_))]
 fn typedecl(alloc: Global, tokens: &[Lexeme]) -> Result<(Body, &[Lexeme]), Stop>
     ensures ok { IfOk result (λ r. typedecl tokens.now ≡ got r.0 r.1.now) }
     ensures err { IfErr result (λ e. IsStop e (typedecl tokens.now)) }
@@ -46,7 +46,7 @@ fn typedecl(alloc: Global, tokens: &[Lexeme]) -> Result<(Body, &[Lexeme]), Stop>
 }
 
 /// Declared constants, behind their word.
-#[tactic(auto, using(crate::proofs::Steps::stopped, crate::proofs::Steps::went_on), unfolding(crate::specs::Forms::consts, crate::specs::Found::then_))]
+#[tactic(auto, using(iv_facts::proofs::Steps::stopped, iv_facts::proofs::Steps::went_on), unfolding(crate::specs::Forms::consts, iv_facts::specs::Found::then_))]
 fn consts(alloc: Global, tokens: &[Lexeme]) -> Result<(Body, &[Lexeme]), Stop>
     ensures ok { IfOk result (λ r. consts tokens.now ≡ got r.0 r.1.now) }
     ensures err { IfErr result (λ e. IsStop e (consts tokens.now)) }
@@ -59,7 +59,7 @@ fn consts(alloc: Global, tokens: &[Lexeme]) -> Result<(Body, &[Lexeme]), Stop>
 }
 
 /// The judgment, behind its word.
-#[tactic(auto, using(crate::proofs::Steps::stopped, crate::proofs::Steps::went_on), unfolding(crate::specs::Forms::judgment, crate::specs::Found::then_))]
+#[tactic(auto, using(iv_facts::proofs::Steps::stopped, iv_facts::proofs::Steps::went_on), unfolding(crate::specs::Forms::judgment, iv_facts::specs::Found::then_))]
 fn judgment(tokens: &[Lexeme]) -> Result<(Body, &[Lexeme]), Stop>
     ensures ok { IfOk result (λ r. judgment tokens.now ≡ got r.0 r.1.now) }
     ensures err { IfErr result (λ e. IsStop e (judgment tokens.now)) }
@@ -72,7 +72,7 @@ fn judgment(tokens: &[Lexeme]) -> Result<(Body, &[Lexeme]), Stop>
 }
 
 /// Constants and axioms, behind their word.
-#[tactic(auto, using(crate::proofs::Steps::stopped, crate::proofs::Steps::went_on), unfolding(crate::specs::Forms::axiomatization, crate::specs::Found::then_))]
+#[tactic(auto, using(iv_facts::proofs::Steps::stopped, iv_facts::proofs::Steps::went_on), unfolding(crate::specs::Forms::axiomatization, iv_facts::specs::Found::then_))]
 fn axiomatization(alloc: Global, tokens: &[Lexeme]) -> Result<(Body, &[Lexeme]), Stop>
     ensures ok { IfOk result (λ r. axiomatization tokens.now ≡ got r.0 r.1.now) }
     ensures err { IfErr result (λ e. IsStop e (axiomatization tokens.now)) }
@@ -83,7 +83,7 @@ fn axiomatization(alloc: Global, tokens: &[Lexeme]) -> Result<(Body, &[Lexeme]),
 }
 
 /// `lemmas`, behind its word.
-#[tactic(auto, using(crate::proofs::Steps::stopped, crate::proofs::Steps::went_on), unfolding(crate::specs::Forms::lemmas, crate::specs::Found::then_))]
+#[tactic(auto, using(iv_facts::proofs::Steps::stopped, iv_facts::proofs::Steps::went_on), unfolding(crate::specs::Forms::lemmas, iv_facts::specs::Found::then_))]
 fn lemmas(alloc: Global, tokens: &[Lexeme]) -> Result<(Body, &[Lexeme]), Stop>
     ensures ok { IfOk result (λ r. lemmas tokens.now ≡ got r.0 r.1.now) }
     ensures err { IfErr result (λ e. IsStop e (lemmas tokens.now)) }
@@ -94,7 +94,7 @@ fn lemmas(alloc: Global, tokens: &[Lexeme]) -> Result<(Body, &[Lexeme]), Stop>
 }
 
 /// `method`, behind its word.
-#[tactic(auto, using(crate::proofs::Steps::stopped, crate::proofs::Steps::went_on), unfolding(crate::specs::Forms::method_definition, crate::specs::Found::then_))]
+#[tactic(auto, using(iv_facts::proofs::Steps::stopped, iv_facts::proofs::Steps::went_on), unfolding(crate::specs::Forms::method_definition, iv_facts::specs::Found::then_))]
 fn method_definition(alloc: Global, tokens: &[Lexeme]) -> Result<(Body, &[Lexeme]), Stop>
     ensures ok { IfOk result (λ r. method_definition tokens.now ≡ got r.0 r.1.now) }
     ensures err { IfErr result (λ e. IsStop e (method_definition tokens.now)) }
@@ -108,7 +108,7 @@ fn method_definition(alloc: Global, tokens: &[Lexeme]) -> Result<(Body, &[Lexeme
 }
 
 /// `define`, behind its word.
-#[tactic(auto, using(crate::proofs::Steps::stopped, crate::proofs::Steps::went_on), unfolding(crate::specs::Forms::define, crate::specs::Found::then_))]
+#[tactic(auto, using(iv_facts::proofs::Steps::stopped, iv_facts::proofs::Steps::went_on), unfolding(crate::specs::Forms::define, iv_facts::specs::Found::then_))]
 fn define(alloc: Global, tokens: &[Lexeme]) -> Result<(Body, &[Lexeme]), Stop>
     ensures ok { IfOk result (λ r. define tokens.now ≡ got r.0 r.1.now) }
     ensures err { IfErr result (λ e. IsStop e (define tokens.now)) }
@@ -122,7 +122,7 @@ fn define(alloc: Global, tokens: &[Lexeme]) -> Result<(Body, &[Lexeme]), Stop>
 }
 
 /// `let`, behind its word.
-#[tactic(auto, using(crate::proofs::Steps::stopped, crate::proofs::Steps::went_on), unfolding(crate::specs::Forms::let_, crate::specs::Found::then_))]
+#[tactic(auto, using(iv_facts::proofs::Steps::stopped, iv_facts::proofs::Steps::went_on), unfolding(crate::specs::Forms::let_, iv_facts::specs::Found::then_))]
 fn let_(alloc: Global, tokens: &[Lexeme]) -> Result<(Body, &[Lexeme]), Stop>
     ensures ok { IfOk result (λ r. let_ tokens.now ≡ got r.0 r.1.now) }
     ensures err { IfErr result (λ e. IsStop e (let_ tokens.now)) }
@@ -135,7 +135,7 @@ fn let_(alloc: Global, tokens: &[Lexeme]) -> Result<(Body, &[Lexeme]), Stop>
 }
 
 /// `by`, behind its word.
-#[tactic(auto, using(crate::proofs::Steps::stopped, crate::proofs::Steps::went_on), unfolding(crate::specs::Forms::by, crate::specs::Found::then_))]
+#[tactic(auto, using(iv_facts::proofs::Steps::stopped, iv_facts::proofs::Steps::went_on), unfolding(crate::specs::Forms::by, iv_facts::specs::Found::then_))]
 fn by(alloc: Global, tokens: &[Lexeme]) -> Result<(Body, &[Lexeme]), Stop>
     ensures ok { IfOk result (λ r. by tokens.now ≡ got r.0 r.1.now) }
     ensures err { IfErr result (λ e. IsStop e (by tokens.now)) }
@@ -220,7 +220,7 @@ fn word_body(class: Class) -> Body
 }
 
 /// A text command, behind its word.
-#[tactic(auto, using(crate::proofs::Steps::stopped, crate::proofs::Steps::went_on), unfolding(crate::specs::Found::then_))]
+#[tactic(auto, using(iv_facts::proofs::Steps::stopped, iv_facts::proofs::Steps::went_on), unfolding(iv_facts::specs::Found::then_))]
 fn text_form(class: Class, tokens: &[Lexeme]) -> Result<(Body, &[Lexeme]), Stop>
     ensures ok { IfOk result (λ r. then_ (text_of Quoted tokens.now) (λ x us. got (text_body class x) us) ≡ got r.0 r.1.now) }
     ensures err { IfErr result (λ e. IsStop e (then_ (text_of Quoted tokens.now) (λ x us. got (text_body class x) us))) }
@@ -230,7 +230,7 @@ fn text_form(class: Class, tokens: &[Lexeme]) -> Result<(Body, &[Lexeme]), Stop>
 }
 
 /// A command with facts, behind its word.
-#[tactic(auto, using(crate::proofs::Steps::stopped, crate::proofs::Steps::went_on), unfolding(crate::specs::Found::then_))]
+#[tactic(auto, using(iv_facts::proofs::Steps::stopped, iv_facts::proofs::Steps::went_on), unfolding(iv_facts::specs::Found::then_))]
 fn facts_form(alloc: Global, class: Class, tokens: &[Lexeme]) -> Result<(Body, &[Lexeme]), Stop>
     ensures ok { IfOk result (λ r. then_ (facts tokens.now) (λ x us. got (facts_body class x) us) ≡ got r.0 r.1.now) }
     ensures err { IfErr result (λ e. IsStop e (then_ (facts tokens.now) (λ x us. got (facts_body class x) us))) }
@@ -240,7 +240,7 @@ fn facts_form(alloc: Global, class: Class, tokens: &[Lexeme]) -> Result<(Body, &
 }
 
 /// A command that claims, behind its word.
-#[tactic(auto, using(crate::proofs::Steps::stopped, crate::proofs::Steps::went_on), unfolding(crate::specs::Found::then_))]
+#[tactic(auto, using(iv_facts::proofs::Steps::stopped, iv_facts::proofs::Steps::went_on), unfolding(iv_facts::specs::Found::then_))]
 fn claim_form(alloc: Global, class: Class, tokens: &[Lexeme]) -> Result<(Body, &[Lexeme]), Stop>
     ensures ok { IfOk result (λ r. then_ (claim tokens.now) (λ x us. got (claim_body class x) us) ≡ got r.0 r.1.now) }
     ensures err { IfErr result (λ e. IsStop e (then_ (claim tokens.now) (λ x us. got (claim_body class x) us))) }
@@ -250,7 +250,7 @@ fn claim_form(alloc: Global, class: Class, tokens: &[Lexeme]) -> Result<(Body, &
 }
 
 /// `lemma` or one of its equals, behind its word.
-#[tactic(auto, using(crate::proofs::Steps::stopped, crate::proofs::Steps::went_on), unfolding(crate::specs::Found::then_))]
+#[tactic(auto, using(iv_facts::proofs::Steps::stopped, iv_facts::proofs::Steps::went_on), unfolding(iv_facts::specs::Found::then_))]
 fn statement_form(alloc: Global, class: Class, tokens: &[Lexeme]) -> Result<(Body, &[Lexeme]), Stop>
     ensures ok { IfOk result (λ r. then_ (statement tokens.now) (λ x us. got (statement_body class x) us) ≡ got r.0 r.1.now) }
     ensures err { IfErr result (λ e. IsStop e (then_ (statement tokens.now) (λ x us. got (statement_body class x) us))) }
@@ -260,7 +260,7 @@ fn statement_form(alloc: Global, class: Class, tokens: &[Lexeme]) -> Result<(Bod
 }
 
 /// A command with names, propositions or facts of its own, behind its word.
-#[tactic(auto, using(crate::proofs::Steps::stopped, crate::proofs::Steps::went_on), unfolding(crate::specs::Found::then_))]
+#[tactic(auto, using(iv_facts::proofs::Steps::stopped, iv_facts::proofs::Steps::went_on), unfolding(iv_facts::specs::Found::then_))]
 fn context_form(alloc: Global, class: Class, tokens: &[Lexeme]) -> Result<(Body, &[Lexeme]), Stop>
     ensures ok { IfOk result (λ r. context_form class tokens.now ≡ got r.0 r.1.now) }
     ensures err { IfErr result (λ e. IsStop e (context_form class tokens.now)) }
@@ -293,7 +293,7 @@ fn context_form(alloc: Global, class: Class, tokens: &[Lexeme]) -> Result<(Body,
 }
 
 /// A declaration, behind its word.
-#[tactic(auto, using(crate::proofs::Steps::stopped, crate::proofs::Steps::went_on), unfolding(crate::specs::Found::then_))]
+#[tactic(auto, using(iv_facts::proofs::Steps::stopped, iv_facts::proofs::Steps::went_on), unfolding(iv_facts::specs::Found::then_))]
 fn declaration_form(
     alloc: Global,
     class: Class,
@@ -319,7 +319,7 @@ fn declaration_form(
 }
 
 /// A command that refines a goal, behind its word.
-#[tactic(auto, using(crate::proofs::Steps::stopped, crate::proofs::Steps::went_on), unfolding(crate::specs::Found::then_))]
+#[tactic(auto, using(iv_facts::proofs::Steps::stopped, iv_facts::proofs::Steps::went_on), unfolding(iv_facts::specs::Found::then_))]
 fn proof_form(alloc: Global, class: Class, tokens: &[Lexeme]) -> Result<(Body, &[Lexeme]), Stop>
     ensures ok { IfOk result (λ r. proof_form class tokens.now ≡ got r.0 r.1.now) }
     ensures err { IfErr result (λ e. IsStop e (proof_form class tokens.now)) }

@@ -6,22 +6,7 @@
 
 pub mod commands;
 pub mod declarations;
-pub mod facts;
 pub mod forms;
 pub mod laws;
-pub mod levelled;
-pub mod methods;
-pub mod patterns;
-pub mod props;
-pub mod stop;
-pub mod tokens;
 
 pub use forms::form;
-pub use stop::Stop;
-
-#[cfg(test)]
-mod facts_tests;
-#[cfg(test)]
-mod props_tests;
-#[cfg(test)]
-mod samples;

@@ -1,5 +1,5 @@
 use Rattle.std.proofs.Common.{◌≡◌, drop}
-use Rattle.iv_read.specs.Found.{many}
+use Rattle.iv_facts.specs.Found.{many}
 use Rattle.iv_read.specs.Commands.{goes_noted, next_noted, more_noted}
 use Rattle.iv_read.proofs.commands.more_noted.Given as goal
 

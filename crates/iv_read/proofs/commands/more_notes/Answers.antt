@@ -1,5 +1,5 @@
 use Rattle.std.proofs.Common.{rules}
-use Rattle.iv_read.proofs.Steps.{many_next}
+use Rattle.iv_facts.proofs.Steps.{many_next}
 use Rattle.iv_read.proofs.commands.more_notes.Goals as goal
 
 pub loop-step-preserved : goal.loop-step-preserved

@@ -1,5 +1,5 @@
 use Rattle.std.proofs.Common.{◌≡◌, drop}
-use Rattle.iv_read.specs.Found.{fold}
+use Rattle.iv_facts.specs.Found.{fold}
 use Rattle.iv_read.specs.Commands.{begins_part, part, parts}
 use Rattle.iv_read.proofs.commands.parts.Given as goal
 

@@ -1,0 +1,10 @@
+pub mod Steps
+pub mod Levels
+pub mod Held
+pub mod Sorts
+pub mod Lengths
+pub mod Firsts
+pub mod Tails
+pub mod FactsRead
+pub mod PropsRead
+pub mod FactPlaces

@@ -1,0 +1,9 @@
+use Rattle.std.proofs.Common.{◌≡◌, drop}
+use Rattle.iv_gram.specs.declared.class.Class.TheVariants as class
+use Rattle.iv_gram.specs.declared.class.Sort.TheVariants as sort
+use Rattle.iv_facts.specs.Found.{begins, behind, many}
+use Rattle.iv_facts.specs.Props.{group, more_groups}
+use Rattle.iv_facts.proofs.props.more_groups.Given as goal
+
+abbrev pub invariant-loop-step : goal.invariant-loop-step
+invariant-loop-step l = more_groups l.fn.groups l.fn.tokens ≡ many (begins (sort.Only class.And)) (λ us. group (behind us)) l.groups (drop l._step-index l.tokens) l.rest

@@ -1,0 +1,5 @@
+pub mod Found
+pub mod FactLevels
+pub mod Facts
+pub mod Props
+pub mod Laws

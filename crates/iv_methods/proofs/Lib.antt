@@ -1,0 +1,12 @@
+pub mod Lengths
+pub mod Firsts
+pub mod Tails
+pub mod Joins
+pub mod Readings
+pub mod PatternsRead
+pub mod Ends
+pub mod MethodFacts
+pub mod MethodsRead
+pub mod NestedRead
+pub mod WholeRead
+pub mod MethodPlaces

@@ -1,0 +1,4 @@
+pub mod Patterns
+pub mod Methods
+pub mod MethodLevels
+pub mod Laws

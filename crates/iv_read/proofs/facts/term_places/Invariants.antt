@@ -1,7 +1,0 @@
-use Rattle.std.proofs.Common.{◌≡◌, drop}
-use Rattle.iv_read.specs.Found.{many}
-use Rattle.iv_read.specs.Facts.{goes_term_place, term_place, term_places}
-use Rattle.iv_read.proofs.facts.term_places.Given as goal
-
-abbrev pub invariant-loop-step : goal.invariant-loop-step
-invariant-loop-step l = term_places l.fn.tokens ≡ many goes_term_place term_place l.found (drop l._step-index l.tokens) l.rest
