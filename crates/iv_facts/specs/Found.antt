@@ -1,5 +1,5 @@
 -- What a reader of tokens finds, by the next tokens. Of this project.
-use Rattle.std.specs.Prelude.{◌≡◌, ◌⊎◌, ℕ, nat_lt, List, [], ◌∷◌, ◌++◌, Bool, false, Option, Some, None, if◌then◌else◌}
+use Rattle.std.specs.Prelude.{◌≡◌, ◌⊎◌, List, [], ◌∷◌, ◌++◌, Bool, false, Option, Some, None, if◌then◌else◌}
 use Rattle.iv_text.specs.declared.Pos.{Pos}
 use Rattle.iv_gram.specs.declared.class.Sort.{Sort}
 use Rattle.iv_gram.specs.Class.{has}
@@ -50,10 +50,6 @@ abbrev pub stop_at : Stop → List Lexeme → Stop
 stop_at stop.Syntax ts = stop.Syntax
 stop_at (stop.Deep p) ts = stop.Deep (place_of ts)
 stop_at stop.Memory ts = stop.Memory
-
--- what a part with so many levels is read as, where so many are left
-unfoldable pub held : {A : Type 0} → ℕ → ℕ → List Lexeme → A → List Lexeme → Found A
-held left levels ts x us = if nat_lt left levels then deep (place_of ts) else got x us
 
 -- whether a reader that found this may stop for that cause
 abbrev pub IsStop : {A : Type 0} → Stop → Found A → Type 0

@@ -13,7 +13,7 @@ use Rattle.iv_methods.specs.declared.levelled.Levelled.{Levelled}
 use Rattle.iv_facts.specs.Found.{Found, got, then_, begins, unless_deep}
 use Rattle.iv_facts.specs.FactLevels.{limit, first_of, deep_at}
 use Rattle.iv_methods.specs.Methods as M
-use Rattle.iv_methods.specs.MethodLevels.{deep_method, found_method, found_opt_method}
+use Rattle.iv_methods.specs.MethodLevels.{deep_method, deep_opt_method}
 use Rattle.iv_methods.proofs.Readings.{Reads, fits, exceeds}
 use Rattle.iv_methods.proofs.NestedRead.{method_read}
 use Rattle.iv_methods.specs.Laws.{Below}
@@ -46,12 +46,12 @@ begins_method (method (core_dash {d = t} h) s) = or_last (has sort.Name t.class)
 begins_method (method (core_paren {a = t} a m b) s) = or_last (has sort.Name t.class) (or_last (has (sort.Only class.Minus) t.class) a)
 
 module _ (law : Below) where
-  pub a_method_read : {v : MethodText} {ts us : List Lexeme} (d : IsMethod v ts us) → begins (sort.Only class.Question) us ≡ false → begins (sort.Only class.Plus) us ≡ false → begins (sort.Only class.Left) us ≡ false → M.a_method ts ≡ found_method d
+  pub a_method_read : {v : MethodText} {ts us : List Lexeme} (d : IsMethod v ts us) → begins (sort.Only class.Question) us ≡ false → begins (sort.Only class.Plus) us ≡ false → begins (sort.Only class.Left) us ≡ false → M.a_method ts ≡ unless_deep (deep_method d) v us
   unfolding M.a_method
   a_method_read {ts = ts} d q p l = settle ts (method_read law d q p l limit)
 
   pub opt_method_read : {v : Option MethodText} {ts us : List Lexeme} (d : IsOptMethod v ts us) → begins sort.Name us ≡ false → begins (sort.Only class.Minus) us ≡ false → begins (sort.Only class.Open) us ≡ false
-      → begins (sort.Only class.Question) us ≡ false → begins (sort.Only class.Plus) us ≡ false → begins (sort.Only class.Left) us ≡ false → M.opt_method ts ≡ found_opt_method d
+      → begins (sort.Only class.Question) us ≡ false → begins (sort.Only class.Plus) us ≡ false → begins (sort.Only class.Left) us ≡ false → M.opt_method ts ≡ unless_deep (deep_opt_method d) v us
   unfolding M.opt_method
   opt_method_read no_method n m o q p l = rw (n, m, o) refl
   opt_method_read {us = us} (a_method {m = v} d) n m o q p l = rw (begins_method d) (then_some v us (deep_method d) (a_method_read d q p l))

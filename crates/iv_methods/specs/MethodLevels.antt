@@ -9,7 +9,6 @@ use Rattle.iv_forms.specs.declared.method.Case.{Case}
 use Rattle.iv_forms.specs.declared.lexeme.Lexeme.{Lexeme}
 use Rattle.iv_forms.specs.FactForm.{fact, facts}
 use Rattle.iv_forms.specs.MethodForm.{IsSection, section, IsSections, no_sections, sections, IsSubject, premises, conclusion, subject_term, subject_facts, IsMethod, method, IsCore, core_name, core_dash, core_paren, IsSuffix, no_suffix, try, repeat, first, IsAlt, alt, IsMoreAlt, no_bar, bar, IsSemi, semi, IsMoreSemi, no_semicolon, semicolon, IsSeq, seq, IsMoreSeq, no_comma, comma, IsItem, item_method, item_rule, item_call, item_sections, item_match, IsArg, arg_term, arg_method, IsArgs, no_args, args, IsCases, cases, IsMoreCases, no_more_cases, more_cases, IsCase, case_is, IsOptMethod, no_method, a_method}
-use Rattle.iv_facts.specs.Found.{Found, unless_deep}
 use Rattle.iv_facts.specs.FactLevels.{deep_at, first_of, deep_facts}
 
 -- behind a method that has so many levels
@@ -151,9 +150,3 @@ deep_method {ts = ts} d = first_of (deep_at ts (method_levels d)) (fact_in_metho
 abbrev pub deep_opt_method : {v : Option MethodText} {ts us : List Lexeme} → IsOptMethod v ts us → Option Pos
 deep_opt_method no_method = None
 deep_opt_method (a_method m) = deep_method m
-
-abbrev pub found_method : {v : MethodText} {ts us : List Lexeme} → IsMethod v ts us → Found MethodText
-found_method {v = v} {us = us} d = unless_deep (deep_method d) v us
-
-abbrev pub found_opt_method : {v : Option MethodText} {ts us : List Lexeme} → IsOptMethod v ts us → Found (Option MethodText)
-found_opt_method {v = v} {us = us} d = unless_deep (deep_opt_method d) v us
