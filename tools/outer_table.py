@@ -3,7 +3,6 @@
 
     outer_table.py check            follow sets, samples and conflicts
     outer_table.py write            the generated files of `iv_gram`
-    outer_table.py judge DOCUMENT   each piece of a document with its place of refusal, by the table
 
 Then `rt tidy` in the crate, which drops imports and lays out.
 """
@@ -198,31 +197,6 @@ class Table:
             if p not in used:
                 bad.append('%s: unused' % p)
         return bad
-
-    def judge(self, classes, start='Command'):
-        """None where the classes are read, len where they are cut, else the index of the refused one."""
-        stack = [('part', start)]
-        for i, c in enumerate(classes):
-            while True:
-                if not stack:
-                    return i
-                k, n = stack.pop()
-                if k == 'word':
-                    if c in members(n):
-                        break
-                    return i
-                row = next((r for r in self.parts[n] if r and c in members(r[0][1])), None)
-                if row is not None:
-                    stack.extend(reversed(row[1:]))
-                    break
-                if not self.may_end(n):
-                    return i
-        while stack:
-            k, n = stack.pop()
-            if k == 'word' or not self.may_end(n):
-                return len(classes)
-        return None
-
 
 
 HEAD = '// Written by tools/outer_table.py. Do not edit.\n'
