@@ -1,7 +1,8 @@
 //! Readers of methods and of the patterns in them, with the limit on levels.
 //!
 //! Each reader is a function of its own name in `specs/`, which looks at the next tokens alone. A part of a method comes with
-//! its levels, and with the place of the first fact in it that is too deep.
+//! its levels, and with the place of the first fact in it that is too deep. The laws say that the reader of a whole method
+//! finds whatever a method reads.
 #![tactic(auto)]
 
 pub mod laws;

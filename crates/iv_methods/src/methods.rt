@@ -589,7 +589,8 @@ fn inside(
     linked(alloc, left - 1, Join::Or, tokens)
 }
 
-/// A method, and the tokens behind it. It is too deep where it begins, or where the first fact in it begins that is.
+/// A method, and the tokens behind it. Fails with `Deep` where it has more than 400 levels, at its first token, or a fact in it
+/// has, at that fact's; with `Syntax` where no method goes on, and with `Memory` where memory runs out.
 #[tactic(auto, using(crate::proofs::Joins::settled_got, crate::proofs::Joins::settled_noted, crate::proofs::Joins::settled_stopped), unfolding(crate::specs::Methods::a_method, iv_facts::specs::FactLevels::limit))]
 pub fn a_method(alloc: Global, tokens: &[Lexeme]) -> Result<(MethodText, &[Lexeme]), Stop>
     ensures ok { IfOk result (λ r. a_method tokens.now ≡ got r.0 r.1.now) }
@@ -604,7 +605,7 @@ pub fn a_method(alloc: Global, tokens: &[Lexeme]) -> Result<(MethodText, &[Lexem
     }
 }
 
-/// A method, or none, and the tokens behind it.
+/// A method, or none, and the tokens behind it. Fails as [`a_method`] does.
 #[tactic(auto, using(iv_facts::proofs::Steps::stopped, iv_facts::proofs::Steps::went_on), unfolding(crate::specs::Methods::opt_method, iv_facts::specs::Found::then_))]
 pub fn opt_method(alloc: Global, tokens: &[Lexeme]) -> Result<(Option<MethodText>, &[Lexeme]), Stop>
     ensures ok { IfOk result (λ r. opt_method tokens.now ≡ got r.0 r.1.now) }

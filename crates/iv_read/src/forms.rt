@@ -444,7 +444,8 @@ fn by_class(alloc: Global, class: Class, tokens: &[Lexeme]) -> Result<(Body, &[L
 }
 
 /// The command that a form reads from the tokens, and the tokens behind it. Where a form reads all of the tokens, this is the
-/// one that it reads them as, or the first part with more than 400 levels is refused.
+/// one that it reads them as, or the first part with more than 400 levels is refused. Fails with `Syntax` where no form goes on,
+/// with `Deep` and its place at the first part with more than 400 levels, and with `Memory` where memory runs out.
 pub fn form(alloc: Global, tokens: &[Lexeme]) -> Result<(Body, &[Lexeme]), Stop>
     ensures ok { IfOk result (λ r. form tokens.now ≡ got r.0 r.1.now) }
     ensures err { IfErr result (λ e. IsStop e (form tokens.now)) }
