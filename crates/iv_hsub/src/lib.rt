@@ -19,7 +19,7 @@ pub use harrop::hhf;
 pub use looseness::loose;
 pub use raising::raise;
 pub use substitution::{happ, hsub};
-pub use typing::{is_term, type_of};
+pub use typing::{has_type, is_term, type_of};
 
 #[cfg(test)]
 mod tests;

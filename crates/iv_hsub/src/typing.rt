@@ -2,7 +2,7 @@
 ghost use Rattle.std.specs.Prelude.{◌≡◌, ◌≤◌, ◌<◌, IfOk, IfErr, IsTrue, ◌↔◌, MatchOption};
 ghost use Rattle.iv_term.specs.Typ.{fun};
 ghost use Rattle.iv_term.specs.declared.want.Want.TheVariants.{Memory};
-ghost use Rattle.iv_hsub.specs.Typing.{first_typ, second_typ, dom, cod, types_len, type_at, head_type, result_type, type_of, IsHead, IsTerm, AreArgs};
+ghost use Rattle.iv_hsub.specs.Typing.{first_typ, second_typ, dom, cod, types_len, type_at, head_type, result_type, type_of, IsHead, IsTerm, AreArgs, HasType};
 ghost use Rattle.iv_hsub.specs.Index.{contracts};
 ghost use Rattle.iv_hsub.specs.Bounds.{types_in};
 
@@ -216,6 +216,14 @@ pub fn is_term(t: &Term, bounds: &Types) -> bool
     ensures { IsTrue result ↔ IsTerm bounds.now t.now }
 {
     is_term_under(t, &Bounds::Outer(bounds))
+}
+
+/// Whether a tree is a term of a type, where `bounds` are the types of its loose variables, the innermost first. Takes
+/// no memory.
+pub fn has_type(t: &Term, typ: &Typ, bounds: &Types) -> bool
+    ensures { IsTrue result ↔ HasType bounds.now typ.now t.now }
+{
+    fits(t, typ, &Bounds::Outer(bounds))
 }
 
 /// The type of what has type `a` at some arguments.

@@ -94,8 +94,9 @@ fn changed_all(alloc: Global, ts: &Terms, s: &Subst) -> Mem<Option<Terms>>
     }
 }
 
-/// An abstraction where the type or the body may be new; the old one can't be contracted.
-fn with_body(
+/// An abstraction where the type or the body may be new; the old one can't be contracted, and the new one is where it
+/// can be. Fails where memory runs out.
+pub fn with_body(
     alloc: Global,
     a: &Typ,
     typ: Option<Typ>,

@@ -5,11 +5,11 @@
 //! definitions is in [`laws`].
 #![tactic(auto)]
 
-mod apply;
+pub mod apply;
 mod can;
 mod compose;
 pub mod laws;
-mod retyping;
+pub mod retyping;
 pub mod substitution;
 
 pub use retyping::retype;

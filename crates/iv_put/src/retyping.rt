@@ -1,4 +1,4 @@
-//! Types put in a term.
+//! Types put in a term, and terms whose parts may be new.
 ghost use Rattle.std.specs.Prelude.{◌≡◌, IfOk, IfErr};
 ghost use Rattle.std.specs.Option.{unwrap_or};
 ghost use Rattle.iv_term.specs.declared.typ.Typ.{Typ};
@@ -43,8 +43,8 @@ pub(crate) fn changed_typ(alloc: Global, a: &Typ, types: &TySubst) -> Mem<Option
     if typ.is(a) { Ok(None) } else { Ok(Some(typ)) }
 }
 
-/// A constant at its new type, if it has one.
-fn constant(c: &Text, typ: Option<Typ>) -> Mem<Option<Head>>
+/// A constant at its new type, if it has one. Fails where memory runs out.
+pub fn constant(c: &Text, typ: Option<Typ>) -> Mem<Option<Head>>
     ensures ok { IfOk result (λ r. (a : Typ) → unwrap_or r (Const c.now a) ≡ Const c.now (unwrap_or typ a)) }
     ensures memory { IfErr result (λ w. w ≡ Memory) }
 {
@@ -54,8 +54,8 @@ fn constant(c: &Text, typ: Option<Typ>) -> Mem<Option<Head>>
     }
 }
 
-/// A free variable at its new type, if it has one.
-fn free(x: &Name, typ: Option<Typ>) -> Mem<Option<Head>>
+/// A free variable at its new type, if it has one. Fails where memory runs out.
+pub fn free(x: &Name, typ: Option<Typ>) -> Mem<Option<Head>>
     ensures ok { IfOk result (λ r. (a : Typ) → unwrap_or r (Free x.now a) ≡ Free x.now (unwrap_or typ a)) }
     ensures memory { IfErr result (λ w. w ≡ Memory) }
 {
@@ -65,8 +65,8 @@ fn free(x: &Name, typ: Option<Typ>) -> Mem<Option<Head>>
     }
 }
 
-/// A schematic variable at its new type, if it has one.
-fn schematic(x: &Name, typ: Option<Typ>) -> Mem<Option<Head>>
+/// A schematic variable at its new type, if it has one. Fails where memory runs out.
+pub fn schematic(x: &Name, typ: Option<Typ>) -> Mem<Option<Head>>
     ensures ok { IfOk result (λ r. (a : Typ) → unwrap_or r (Schematic x.now a) ≡ Schematic x.now (unwrap_or typ a)) }
     ensures memory { IfErr result (λ w. w ≡ Memory) }
 {
@@ -160,8 +160,8 @@ fn with_body(
     }
 }
 
-/// A head with arguments where either may be new.
-pub(crate) fn with_args(
+/// A head with arguments where either may be new. Fails where memory runs out.
+pub fn with_args(
     h: &Head,
     head: Option<Head>,
     args: Option<Terms>,
@@ -182,8 +182,8 @@ pub(crate) fn with_args(
     }
 }
 
-/// The new arguments, if there are any, or a copy of the old ones.
-pub(crate) fn new_or_copy(new: Option<Terms>, old: &Terms) -> Mem<Terms>
+/// The new arguments, if there are any, or a copy of the old ones. Fails where memory runs out.
+pub fn new_or_copy(new: Option<Terms>, old: &Terms) -> Mem<Terms>
     ensures ok { IfOk result (λ ts. ts ≡ unwrap_or new old.now) }
     ensures memory { IfErr result (λ w. w ≡ Memory) }
 {
@@ -193,8 +193,8 @@ pub(crate) fn new_or_copy(new: Option<Terms>, old: &Terms) -> Mem<Terms>
     }
 }
 
-/// A list of terms where the first or the rest may be new.
-pub(crate) fn with_parts(
+/// A list of terms where the first or the rest may be new. Fails where memory runs out.
+pub fn with_parts(
     alloc: Global,
     first: Option<Term>,
     old_first: &Shared<Term>,

@@ -1,3 +1,4 @@
+//! Types put in a type, and types whose parts may be new.
 ghost use Rattle.std.specs.Prelude.{◌≡◌, IfOk, IfErr};
 ghost use Rattle.std.specs.Option.{unwrap_or, option_copied};
 ghost use Rattle.iv_term.specs.declared.typ.Types.{Types};
@@ -65,8 +66,8 @@ pub(crate) fn new_or_copy(new: Option<Typ>, old: &Typ) -> Mem<Typ>
     }
 }
 
-/// A constructor with new arguments, if there are any.
-pub(crate) fn with_args(c: &Text, args: Option<Types>) -> Mem<Option<Typ>>
+/// A constructor with new arguments, if there are any. Fails where memory runs out.
+pub fn with_args(c: &Text, args: Option<Types>) -> Mem<Option<Typ>>
     ensures ok { IfOk result (λ r. (ts : Types) → unwrap_or r (Con c.now ts) ≡ Con c.now (unwrap_or args ts)) }
     ensures memory { IfErr result (λ w. w ≡ Memory) }
 {
@@ -76,8 +77,8 @@ pub(crate) fn with_args(c: &Text, args: Option<Types>) -> Mem<Option<Typ>>
     }
 }
 
-/// A copy of a value, if there is one.
-pub(crate) fn value(found: Option<&Typ>) -> Mem<Option<Typ>>
+/// A copy of a value, if there is one. Fails where memory runs out.
+pub fn value(found: Option<&Typ>) -> Mem<Option<Typ>>
     ensures ok { IfOk result (λ r. r ≡ option_copied found.entry) }
     ensures memory { IfErr result (λ w. w ≡ Memory) }
 {
@@ -87,8 +88,8 @@ pub(crate) fn value(found: Option<&Typ>) -> Mem<Option<Typ>>
     }
 }
 
-/// A list of types where the first or the rest may be new.
-pub(crate) fn with_parts(
+/// A list of types where the first or the rest may be new; what is old is shared. Fails where memory runs out.
+pub fn with_parts(
     alloc: Global,
     first: Option<Typ>,
     old_first: &Shared<Typ>,

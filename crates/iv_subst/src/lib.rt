@@ -4,7 +4,7 @@
 //! finds a most general unifier; [`Solved`] goes on from what earlier calls found.
 #![tactic(auto)]
 
-mod apply;
+pub mod apply;
 mod compose;
 mod heads;
 pub mod no_unify;

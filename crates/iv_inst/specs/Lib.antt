@@ -1,0 +1,3 @@
+pub mod Open
+pub mod Made
+pub mod Laws
