@@ -1,3 +1,7 @@
+//! Types and terms are written as texts, which are read from the last letter on.
+//!
+//! A type is a letter, `p` for `prop`, or `> a b` for functions. A term is a letter, `h t u` in round brackets,
+//! a digit for a bound variable, or an abstraction by one of `%`, `^` and `&`. `kind` has the type of each letter.
 use crate::*;
 use iv_shared::Shared;
 use iv_term::{Head, Mem, Name, Term, Terms, Text, Typ, Types};
@@ -9,301 +13,262 @@ fn got<T>(rt: &impl Abort, made: Mem<T>) -> T {
     made.expect(rt, "memory")
 }
 
-/// The type i.
-fn i(alloc: Global) -> Mem<Typ> {
-    Ok(Typ::Con(Text::from_slice(alloc, &['i'])?, Types::Nil))
+/// The first two types as a type of functions, and the others.
+fn function(rt: &impl Abort, alloc: Global, types: &Types) -> Types {
+    match types {
+        Types::Cons(a, more) => match more.get() {
+            Types::Cons(b, rest) => {
+                let a = got(rt, a.get().copy());
+                let b = got(rt, b.get().copy());
+                let rest = got(rt, rest.get().copy());
+                got(rt, Types::cons(alloc, got(rt, Typ::fun(alloc, a, b)), rest))
+            }
+            Types::Nil => panic!(rt; "no type"),
+        },
+        Types::Nil => panic!(rt; "no type"),
+    }
 }
 
-/// The type i => i.
-fn ii(alloc: Global) -> Mem<Typ> {
-    Typ::fun(alloc, i(alloc)?, i(alloc)?)
+/// The type of a letter.
+fn named(rt: &impl Abort, alloc: Global, letter: char) -> Typ {
+    match letter {
+        'p' => got(rt, Typ::prop(alloc)),
+        _ => Typ::Con(got(rt, Text::from_slice(alloc, &[letter])), Types::Nil),
+    }
 }
 
-/// The type i => i => i.
-fn iii(alloc: Global) -> Mem<Typ> {
-    Typ::fun(alloc, i(alloc)?, ii(alloc)?)
+fn types(rt: &impl Abort, alloc: Global, written: &str) -> Types {
+    let mut types = Types::Nil;
+    for letter in written.chars().rev() {
+        types = match letter {
+            '>' => function(rt, alloc, &types),
+            _ => got(rt, Types::cons(alloc, named(rt, alloc, letter), types)),
+        };
+    }
+    types
 }
 
-fn name(alloc: Global, letter: char) -> Mem<Name> {
-    let text = Text::from_slice(alloc, &[letter])?;
-    Ok(Name { text, number: 0 })
+fn typ(rt: &impl Abort, alloc: Global, written: &str) -> Typ {
+    match types(rt, alloc, written) {
+        Types::Cons(first, _rest) => got(rt, first.get().copy()),
+        Types::Nil => panic!(rt; "no type"),
+    }
 }
 
-/// A free variable at arguments.
-fn free(alloc: Global, letter: char, typ: Typ, args: Terms) -> Mem<Term> {
-    Ok(Term::Spine(Head::Free(name(alloc, letter)?, typ), args))
+/// The type of a variable or a constant, or that over which a sign abstracts.
+fn kind(letter: char) -> &'static str {
+    match letter {
+        'A' | 'B' => "p",
+        '^' | 'f' => ">ii",
+        '&' => ">ip",
+        'h' => ">i>ii",
+        'q' => ">i>>iii",
+        '=' => ">p>pp",
+        'P' | '!' => ">>ipp",
+        '?' => ">>>ippp",
+        _ => "i",
+    }
 }
 
-/// The free variable c of type i.
-fn c(alloc: Global) -> Mem<Term> {
-    free(alloc, 'c', i(alloc)?, Terms::Nil)
+fn name(rt: &impl Abort, alloc: Global, letter: char) -> Name {
+    let text = got(rt, Text::from_slice(alloc, &[letter]));
+    Name { text, number: 0 }
 }
 
-/// A free variable of type prop.
-fn prop(alloc: Global, letter: char) -> Mem<Term> {
-    free(alloc, letter, Typ::prop(alloc)?, Terms::Nil)
+/// The constant `==>` for `=` and `!!` for `!` and `?`, else a variable: for `f` it is x again, of another type.
+fn head(rt: &impl Abort, alloc: Global, letter: char) -> Head {
+    let a = typ(rt, alloc, kind(letter));
+    match letter {
+        '=' => Head::Const(got(rt, Text::from_slice(alloc, &['=', '=', '>'])), a),
+        '!' | '?' => Head::Const(got(rt, Text::from_slice(alloc, &['!', '!'])), a),
+        'f' => Head::Free(name(rt, alloc, 'x'), a),
+        _ => Head::Free(name(rt, alloc, letter), a),
+    }
 }
 
-fn bound(n: u32) -> Term {
-    Term::Spine(Head::Bound(n), Terms::Nil)
+fn atom(rt: &impl Abort, alloc: Global, letter: char) -> Term {
+    match letter.to_digit(10) {
+        Some(n) => Term::Spine(Head::Bound(n), Terms::Nil),
+        None => Term::Spine(head(rt, alloc, letter), Terms::Nil),
+    }
 }
 
-fn lam(alloc: Global, typ: Typ, body: Term) -> Mem<Term> {
-    Ok(Term::Abs(typ, Shared::new(alloc, body)?))
+/// The first of some terms at the others.
+fn applied(rt: &impl Abort, terms: &Terms) -> Term {
+    match terms {
+        Terms::Cons(first, args) => match first.get() {
+            Term::Spine(h, _none) => Term::Spine(got(rt, h.copy()), got(rt, args.get().copy())),
+            Term::Abs(_a, _b) => panic!(rt; "no head"),
+        },
+        Terms::Nil => panic!(rt; "no head"),
+    }
 }
 
-fn one(alloc: Global, t: Term) -> Mem<Terms> {
-    Terms::cons(alloc, t, Terms::Nil)
+/// The first of some terms under a binder, and the others.
+fn bind(rt: &impl Abort, alloc: Global, a: Typ, terms: Terms) -> Terms {
+    match terms {
+        Terms::Cons(body, rest) => {
+            let first = Shared::new(alloc, Term::Abs(a, body)).expect(rt, "memory");
+            Terms::Cons(first, rest)
+        }
+        Terms::Nil => panic!(rt; "no term"),
+    }
 }
 
-fn two(alloc: Global, t: Term, u: Term) -> Mem<Terms> {
-    Terms::cons(alloc, t, one(alloc, u)?)
+fn terms(rt: &impl Abort, alloc: Global, written: &str) -> Terms {
+    let mut outer = Vec::new(alloc);
+    let mut terms = Terms::Nil;
+    for letter in written.chars().rev() {
+        terms = match letter {
+            ' ' => terms,
+            ')' => {
+                outer.push(terms).expect(rt, "memory");
+                Terms::Nil
+            }
+            '(' => {
+                let rest = outer.pop().expect(rt, "no bracket");
+                got(rt, Terms::cons(alloc, applied(rt, &terms), rest))
+            }
+            '%' | '^' | '&' => bind(rt, alloc, typ(rt, alloc, kind(letter)), terms),
+            _ => got(rt, Terms::cons(alloc, atom(rt, alloc, letter), terms)),
+        };
+    }
+    terms
 }
 
-/// h t u, with h of type i => i => i.
-fn h(alloc: Global, t: Term, u: Term) -> Mem<Term> {
-    free(alloc, 'h', iii(alloc)?, two(alloc, t, u)?)
+fn term(rt: &impl Abort, alloc: Global, written: &str) -> Term {
+    match terms(rt, alloc, written) {
+        Terms::Cons(first, _rest) => got(rt, first.get().copy()),
+        Terms::Nil => panic!(rt; "no term"),
+    }
 }
 
-/// h t, where the second argument is left out.
-fn h_of(alloc: Global, t: Term) -> Mem<Term> {
-    free(alloc, 'h', iii(alloc)?, one(alloc, t)?)
+fn is(rt: &impl Abort, alloc: Global, t: &Term, written: &str) -> bool {
+    t.is(&term(rt, alloc, written))
 }
 
-/// `!!` over a type, at arguments.
-fn all(alloc: Global, over: Typ, args: Terms) -> Mem<Term> {
-    let predicate = Typ::fun(alloc, over, Typ::prop(alloc)?)?;
-    let typ = Typ::fun(alloc, predicate, Typ::prop(alloc)?)?;
-    let text = Text::from_slice(alloc, &['!', '!'])?;
-    Ok(Term::Spine(Head::Const(text, typ), args))
-}
-
-/// !!x. b, with x of type i.
-fn all_i(alloc: Global, body: Term) -> Mem<Term> {
-    let body = lam(alloc, i(alloc)?, body)?;
-    all(alloc, i(alloc)?, one(alloc, body)?)
-}
-
-/// P b, with P of type (i => prop) => prop.
-fn p(alloc: Global, body: Term) -> Mem<Term> {
-    let over = Typ::fun(alloc, i(alloc)?, Typ::prop(alloc)?)?;
-    let typ = Typ::fun(alloc, over, Typ::prop(alloc)?)?;
-    free(alloc, 'P', typ, one(alloc, body)?)
-}
-
-/// %g. g c, for g of type i => i.
-fn at_c(alloc: Global) -> Mem<Term> {
-    let body = Term::Spine(Head::Bound(0), one(alloc, c(alloc)?)?);
-    lam(alloc, ii(alloc)?, body)
-}
-
-/// f (%x. h x x), for the variable f of index 0.
-fn f_of_twice(alloc: Global) -> Mem<Term> {
-    let twice = lam(alloc, i(alloc)?, h(alloc, bound(0), bound(0))?)?;
-    Ok(Term::Spine(Head::Bound(0), one(alloc, twice)?))
+/// A body with a value of a type for its variable of index 0.
+fn put(rt: &impl Abort, alloc: Global, body: &str, value: &str, over: &str) -> Term {
+    let body = term(rt, alloc, body);
+    let value = term(rt, alloc, value);
+    let over = typ(rt, alloc, over);
+    got(rt, hsub(alloc, &body, &value, &over, &Types::Nil))
 }
 
 /// (%g. g c) (%x. h x x) is (%x. h x x) c, which is h c c.
 #[test]
 fn a_redex_twice_over(rt: HostRuntime) {
     let alloc = rt.alloc();
-    let typ = got(
-        &rt,
-        Typ::fun(alloc, got(&rt, ii(alloc)), got(&rt, i(alloc))),
-    );
-    let value = got(&rt, at_c(alloc));
-    let body = got(&rt, f_of_twice(alloc));
-    let result = got(&rt, hsub(alloc, &body, &value, &typ, &Types::Nil));
-    let wanted = got(&rt, h(alloc, got(&rt, c(alloc)), got(&rt, c(alloc))));
-    assert!(rt; result.is(&wanted));
-}
-
-/// %z. h (f z) z, for the variable f that is next outside.
-fn under_z(alloc: Global) -> Mem<Term> {
-    let inner = Term::Spine(Head::Bound(1), one(alloc, bound(0))?);
-    lam(alloc, i(alloc)?, h(alloc, inner, bound(0))?)
-}
-
-/// %z. h (h z b) z, for the variable b that is next outside.
-fn under_z_wanted(alloc: Global) -> Mem<Term> {
-    let inner = h(alloc, bound(0), bound(1))?;
-    lam(alloc, i(alloc)?, h(alloc, inner, bound(0))?)
+    let result = put(&rt, alloc, "(0 %(h 0 0))", "^(0 c)", ">>iii");
+    assert!(rt; is(&rt, alloc, &result, "(h c c)"));
 }
 
 /// In %z. h (f z) z the function %x. h x b is put for f, with b loose.
 #[test]
 fn a_function_under_a_binder(rt: HostRuntime) {
     let alloc = rt.alloc();
-    let typ = got(&rt, ii(alloc));
-    let value = got(&rt, h(alloc, bound(0), bound(1)));
-    let value = got(&rt, lam(alloc, got(&rt, i(alloc)), value));
-    let body = got(&rt, under_z(alloc));
-    let result = got(&rt, hsub(alloc, &body, &value, &typ, &Types::Nil));
-    let wanted = got(&rt, under_z_wanted(alloc));
-    assert!(rt; result.is(&wanted) && loose(&result) == 1 && loose(&body) == 1);
-}
-
-/// %x y. h y x, and %z. f z c.
-fn turned(alloc: Global) -> Mem<Term> {
-    let inner = lam(alloc, i(alloc)?, h(alloc, bound(0), bound(1))?)?;
-    lam(alloc, i(alloc)?, inner)
-}
-
-fn at_z_and_c(alloc: Global) -> Mem<Term> {
-    let args = two(alloc, bound(0), c(alloc)?)?;
-    lam(alloc, i(alloc)?, Term::Spine(Head::Bound(1), args))
+    let result = put(&rt, alloc, "%(h (1 0) 0)", "%(h 0 1)", ">ii");
+    assert!(rt; is(&rt, alloc, &result, "%(h (h 0 1) 0)"));
 }
 
 /// %z. f z c with %x y. h y x for f is %z. h c z, which is h c.
 #[test]
 fn a_contraction_after_substitution(rt: HostRuntime) {
     let alloc = rt.alloc();
-    let typ = got(&rt, iii(alloc));
-    let value = got(&rt, turned(alloc));
-    let body = got(&rt, at_z_and_c(alloc));
-    let result = got(&rt, hsub(alloc, &body, &value, &typ, &Types::Nil));
-    let wanted = got(&rt, h_of(alloc, got(&rt, c(alloc))));
-    assert!(rt; result.is(&wanted));
+    let result = put(&rt, alloc, "%(1 0 c)", "%%(h 0 1)", ">i>ii");
+    assert!(rt; is(&rt, alloc, &result, "(h c)"));
 }
 
-/// h at c, with the value h itself.
+/// %x y. h y x at c and a variable of index 3.
 #[test]
 fn a_value_takes_arguments(rt: HostRuntime) {
     let alloc = rt.alloc();
-    let typ = got(&rt, iii(alloc));
-    let args = got(&rt, two(alloc, got(&rt, c(alloc)), bound(3)));
-    let value = got(&rt, turned(alloc));
-    let result = got(&rt, happ(alloc, &value, &typ, &args));
-    let wanted = got(&rt, h(alloc, bound(3), got(&rt, c(alloc))));
-    assert!(rt; result.is(&wanted));
-    let up = got(&rt, raise(alloc, &result, 2, 1));
-    assert!(rt; loose(&up) == 6 && loose(&result) == 4);
+    let value = term(&rt, alloc, "%%(h 0 1)");
+    let over = typ(&rt, alloc, ">i>ii");
+    let args = terms(&rt, alloc, "c 3");
+    let result = got(&rt, happ(alloc, &value, &over, &args));
+    assert!(rt; is(&rt, alloc, &result, "(h 3 c)"));
+}
+
+#[test]
+fn loose_variables_are_raised(rt: HostRuntime) {
+    let alloc = rt.alloc();
+    let t = term(&rt, alloc, "%(h 0 4)");
+    let up = got(&rt, raise(alloc, &t, 2, 1));
+    assert!(rt; is(&rt, alloc, &up, "%(h 0 6)"));
+    assert!(rt; loose(&t) == 4 && loose(&up) == 6);
 }
 
 #[test]
 fn terms_and_their_types(rt: HostRuntime) {
     let alloc = rt.alloc();
-    let only = got(&rt, Types::cons(alloc, got(&rt, i(alloc)), Types::Nil));
-    let good = got(&rt, h_of(alloc, bound(0)));
-    let typ = got(&rt, type_of(alloc, &good, &only));
-    assert!(rt; is_term(&good, &only) && !is_term(&good, &Types::Nil));
-    assert!(rt; typ.is(&got(&rt, ii(alloc))) && typing::is_fun(&typ));
-    let bad = got(&rt, h_of(alloc, got(&rt, prop(alloc, 'A'))));
-    assert!(rt; !is_term(&bad, &only));
+    let bounds = types(&rt, alloc, "i");
+    let good = term(&rt, alloc, "(h 0)");
+    let over = got(&rt, type_of(alloc, &good, &bounds));
+    assert!(rt; over.is(&typ(&rt, alloc, ">ii")) && typing::is_fun(&over));
+    assert!(rt; is_term(&good, &bounds) && !is_term(&good, &Types::Nil));
+    assert!(rt; !is_term(&term(&rt, alloc, "(h A)"), &bounds));
+    assert!(rt; has_type(&good, &over, &bounds) && !has_type(&good, &over, &Types::Nil));
+    assert!(rt; !has_type(&good, &typ(&rt, alloc, "i"), &bounds));
 }
 
 /// %z. h c z isn't short.
 #[test]
 fn terms_are_short(rt: HostRuntime) {
     let alloc = rt.alloc();
-    let body = got(&rt, h(alloc, got(&rt, c(alloc)), bound(0)));
-    assert!(rt; contracts(&body));
-    let long = got(&rt, lam(alloc, got(&rt, i(alloc)), got(&rt, body.copy())));
-    assert!(rt; !is_term(&long, &Types::Nil));
-    let short = got(&rt, eta(alloc, &got(&rt, i(alloc)), body));
-    assert!(rt; is_term(&short, &Types::Nil));
+    let body = term(&rt, alloc, "(h c 0)");
+    assert!(rt; contracts(&body) && !is_term(&term(&rt, alloc, "%(h c 0)"), &Types::Nil));
+    let short = got(&rt, eta(alloc, &typ(&rt, alloc, "i"), body));
+    assert!(rt; is(&rt, alloc, &short, "(h c)") && is_term(&short, &Types::Nil));
 }
 
-/// q u (x i) (x ii), for the variables x of these two types.
-fn q(alloc: Global, first: Term) -> Mem<Term> {
-    let typ = Typ::fun(alloc, i(alloc)?, Typ::fun(alloc, ii(alloc)?, i(alloc)?)?)?;
-    let second = free(alloc, 'x', ii(alloc)?, Terms::Nil)?;
-    free(alloc, 'q', typ, two(alloc, first, second)?)
+/// What abstraction over the variable x of a type makes of a term.
+fn over_x(rt: &impl Abort, alloc: Global, written: &str, a: &Typ) -> Term {
+    let t = term(rt, alloc, written);
+    let x = name(rt, alloc, 'x');
+    got(rt, abstract_over(alloc, &t, &x, a))
 }
 
 #[test]
 fn one_name_and_two_types(rt: HostRuntime) {
     let alloc = rt.alloc();
-    let typ = got(&rt, i(alloc));
-    let x = got(&rt, name(alloc, 'x'));
-    let t = got(
-        &rt,
-        q(
-            alloc,
-            got(&rt, free(alloc, 'x', got(&rt, i(alloc)), Terms::Nil)),
-        ),
-    );
-    let result = got(&rt, abstract_over(alloc, &t, &x, &typ));
-    let wanted = got(
-        &rt,
-        lam(alloc, got(&rt, i(alloc)), got(&rt, q(alloc, bound(0)))),
-    );
-    assert!(rt; result.is(&wanted));
+    let result = over_x(&rt, alloc, "(q x f)", &typ(&rt, alloc, "i"));
+    assert!(rt; is(&rt, alloc, &result, "%(q 0 f)"));
 }
 
-/// Over x of type i => i the abstraction is q x, contracted.
+/// Over x of type i => i the abstraction of q c x is q c, contracted, and at x it is q c x again.
 #[test]
 fn the_other_type(rt: HostRuntime) {
     let alloc = rt.alloc();
-    let typ = got(&rt, ii(alloc));
-    let x = got(&rt, name(alloc, 'x'));
-    let t = got(&rt, q(alloc, got(&rt, c(alloc))));
-    let result = got(&rt, abstract_over(alloc, &t, &x, &typ));
-    assert!(rt; contracts(&t) == false && loose(&result) == 0);
-    let args = got(
-        &rt,
-        one(
-            alloc,
-            got(&rt, free(alloc, 'x', got(&rt, ii(alloc)), Terms::Nil)),
-        ),
-    );
-    let back = got(
-        &rt,
-        happ(
-            alloc,
-            &result,
-            &got(&rt, Typ::fun(alloc, typ, got(&rt, i(alloc)))),
-            &args,
-        ),
-    );
-    assert!(rt; back.is(&t));
+    let result = over_x(&rt, alloc, "(q c f)", &typ(&rt, alloc, ">ii"));
+    assert!(rt; is(&rt, alloc, &result, "(q c)"));
+    let over = typ(&rt, alloc, ">>iii");
+    let back = got(&rt, happ(alloc, &result, &over, &terms(&rt, alloc, "f")));
+    assert!(rt; is(&rt, alloc, &back, "(q c f)"));
+}
+
+/// The normal form, which is that of itself.
+fn moved(rt: &impl Abort, alloc: Global, written: &str) -> Term {
+    let once = got(rt, hhf(alloc, &term(rt, alloc, written)));
+    let twice = got(rt, hhf(alloc, &once));
+    assert!(rt; twice.is(&once));
+    once
 }
 
 /// P (%x. A ==> !!y. B) and P (%x. !!y. A ==> B).
-fn quantified_behind(alloc: Global) -> Mem<Term> {
-    let all = all_i(alloc, prop(alloc, 'B')?)?;
-    let body = Term::imp(alloc, &prop(alloc, 'A')?, &all)?;
-    p(alloc, lam(alloc, i(alloc)?, body)?)
-}
-
-fn quantified_in_front(alloc: Global) -> Mem<Term> {
-    let body = Term::imp(alloc, &prop(alloc, 'A')?, &prop(alloc, 'B')?)?;
-    p(alloc, lam(alloc, i(alloc)?, all_i(alloc, body)?)?)
-}
-
 #[test]
 fn quantifiers_move_everywhere(rt: HostRuntime) {
     let alloc = rt.alloc();
-    let t = got(&rt, quantified_behind(alloc));
-    let wanted = got(&rt, quantified_in_front(alloc));
-    let result = got(&rt, hhf(alloc, &t));
-    assert!(rt; result.is(&wanted) && !result.is(&t));
-    let again = got(&rt, hhf(alloc, &result));
-    assert!(rt; again.is(&wanted));
+    let result = moved(&rt, alloc, "(P %(= A (! %B)))");
+    assert!(rt; is(&rt, alloc, &result, "(P %(! %(= A B)))"));
 }
 
 /// A ==> !!f. !! f, and !!f. !!x. A ==> f x.
-fn bare_behind(alloc: Global) -> Mem<Term> {
-    let over = Typ::fun(alloc, i(alloc)?, Typ::prop(alloc)?)?;
-    let inner = all(alloc, i(alloc)?, Terms::Nil)?;
-    let outer = all(alloc, over, one(alloc, inner)?)?;
-    Term::imp(alloc, &prop(alloc, 'A')?, &outer)
-}
-
-fn bare_in_front(alloc: Global) -> Mem<Term> {
-    let over = Typ::fun(alloc, i(alloc)?, Typ::prop(alloc)?)?;
-    let at_x = Term::Spine(Head::Bound(1), one(alloc, bound(0))?);
-    let inner = all_i(alloc, Term::imp(alloc, &prop(alloc, 'A')?, &at_x)?)?;
-    let body = lam(alloc, over.copy()?, inner)?;
-    all(alloc, over, one(alloc, body)?)
-}
-
 #[test]
 fn a_bare_quantifier(rt: HostRuntime) {
     let alloc = rt.alloc();
-    let t = got(&rt, bare_behind(alloc));
-    let wanted = got(&rt, bare_in_front(alloc));
-    let result = got(&rt, hhf(alloc, &t));
-    assert!(rt; result.is(&wanted) && is_term(&result, &Types::Nil));
-    assert!(rt; harrop::is_quantified(&result) && !harrop::is_quantified(&t));
+    let result = moved(&rt, alloc, "(= A (? !))");
+    assert!(rt; is(&rt, alloc, &result, "(? &(! %(= A (1 0))))"));
+    assert!(rt; is_term(&result, &Types::Nil) && harrop::is_quantified(&result));
+    assert!(rt; !harrop::is_quantified(&term(&rt, alloc, "(= A (? !))")));
 }
