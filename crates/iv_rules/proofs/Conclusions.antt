@@ -13,16 +13,16 @@ concludes_sequents (Assume a) r h = h.1
 concludes_sequents (imp_intr a d) r (p, (h, f)) = f.1.1
 concludes_sequents (imp_elim d e) r (p, (q, (h, k, f))) = f.1.1
 concludes_sequents (all_intr x a d) r (p, (h, f)) = f.1.1
-concludes_sequents (all_elim v d) r (p, (h, f)) = f.2.1
+concludes_sequents (all_elim v d) r (p, (h, f)) = f.1.1
 concludes_sequents (Refl v) r f = f.1.1
 concludes_sequents (eq_sym d) r (p, (h, f)) = f.1.1
-concludes_sequents (eq_trans d e) r (p, (q, (h, k, f))) = f.2.1
-concludes_sequents (comb d e) r (p, (q, (h, k, f))) = f.3.1
-concludes_sequents (abs x a d) r (p, (h, f)) = f.2.1
-concludes_sequents (eq_intr d e) r (p, (q, (h, k, f))) = f.2.1
+concludes_sequents (eq_trans d e) r (p, (q, (h, k, f))) = f.1.1
+concludes_sequents (comb d e) r (p, (q, (h, k, f))) = f.1.1
+concludes_sequents (abs x a d) r (p, (h, f)) = f.1.1
+concludes_sequents (eq_intr d e) r (p, (q, (h, k, f))) = f.1.1
 concludes_sequents (eq_elim d e) r (p, (q, (h, k, f))) = f.1.1
 concludes_sequents (conv b d) r (p, (h, f)) = f.1.1
-concludes_sequents (inst s d) r (p, (h, f)) = f.3.1
+concludes_sequents (inst s d) r (p, (h, f)) = f.2.1
 
 -- a rule's premises are the only ones
 back : (F : Sequent → Type 0) (p q : Sequent) → p ≡ q → F q → F p
@@ -41,22 +41,22 @@ concludes_one (imp_intr a d) r u (p, (h, f)) (p', (h', f')) =
 concludes_one (all_intr x a d) r u (p, (h, f)) (p', (h', f')) =
     f.1.0 ∙ sym ((back (λ z. FollowsByAllIntr x a z u) p p' (concludes_one d p p' h h') f').1.0)
 concludes_one (all_elim v d) r u (p, (h, f)) (p', (h', f')) =
-    f.2.0 ∙ sym ((back (λ z. FollowsByAllElim v z u) p p' (concludes_one d p p' h h') f').2.0)
+    f.1.0 ∙ sym ((back (λ z. FollowsByAllElim v z u) p p' (concludes_one d p p' h h') f').1.0)
 concludes_one (eq_sym d) r u (p, (h, f)) (p', (h', f')) =
     f.1.0 ∙ sym ((back (λ z. FollowsBySym z u) p p' (concludes_one d p p' h h') f').1.0)
 concludes_one (abs x a d) r u (p, (h, f)) (p', (h', f')) =
-    f.2.0 ∙ sym ((back (λ z. FollowsByAbs x a z u) p p' (concludes_one d p p' h h') f').2.0)
+    f.1.0 ∙ sym ((back (λ z. FollowsByAbs x a z u) p p' (concludes_one d p p' h h') f').1.0)
 concludes_one (conv b d) r u (p, (h, f)) (p', (h', f')) =
     f.1.0 ∙ sym ((back (λ z. FollowsByConv b z u) p p' (concludes_one d p p' h h') f').1.0)
 concludes_one (inst s d) r u (p, (h, f)) (p', (h', f')) =
-    f.3.0 ∙ sym ((back (λ z. FollowsByInst s z u) p p' (concludes_one d p p' h h') f').3.0)
+    f.2.0 ∙ sym ((back (λ z. FollowsByInst s z u) p p' (concludes_one d p p' h h') f').2.0)
 concludes_one (imp_elim d e) r u (p, (q, (h, k, f))) (p', (q', (h', k', f'))) =
     f.1.0 ∙ sym ((back_both (λ y z. FollowsByImpElim y z u) p p' q q' (concludes_one d p p' h h') (concludes_one e q q' k k') f').1.0)
 concludes_one (eq_trans d e) r u (p, (q, (h, k, f))) (p', (q', (h', k', f'))) =
-    f.2.0 ∙ sym ((back_both (λ y z. FollowsByTrans y z u) p p' q q' (concludes_one d p p' h h') (concludes_one e q q' k k') f').2.0)
+    f.1.0 ∙ sym ((back_both (λ y z. FollowsByTrans y z u) p p' q q' (concludes_one d p p' h h') (concludes_one e q q' k k') f').1.0)
 concludes_one (comb d e) r u (p, (q, (h, k, f))) (p', (q', (h', k', f'))) =
-    f.3.0 ∙ sym ((back_both (λ y z. FollowsByComb y z u) p p' q q' (concludes_one d p p' h h') (concludes_one e q q' k k') f').3.0)
+    f.1.0 ∙ sym ((back_both (λ y z. FollowsByComb y z u) p p' q q' (concludes_one d p p' h h') (concludes_one e q q' k k') f').1.0)
 concludes_one (eq_intr d e) r u (p, (q, (h, k, f))) (p', (q', (h', k', f'))) =
-    f.2.0 ∙ sym ((back_both (λ y z. FollowsByEqIntr y z u) p p' q q' (concludes_one d p p' h h') (concludes_one e q q' k k') f').2.0)
+    f.1.0 ∙ sym ((back_both (λ y z. FollowsByEqIntr y z u) p p' q q' (concludes_one d p p' h h') (concludes_one e q q' k k') f').1.0)
 concludes_one (eq_elim d e) r u (p, (q, (h, k, f))) (p', (q', (h', k', f'))) =
     f.1.0 ∙ sym ((back_both (λ y z. FollowsByEqElim y z u) p p' q q' (concludes_one d p p' h h') (concludes_one e q q' k k') f').1.0)

@@ -91,7 +91,7 @@ by-sym = (closed (equal x y), (said-is _ (eq-is i x y x-is y-is), (refl, (refl, 
 
 by-trans : Concludes (eq_trans (said (equal x y)) (said (equal y (f x)))) (closed (equal x (f x)))
 unfolding Concludes dom union
-by-trans = (closed (equal x y), (closed (equal y (f x)), (said-is _ (eq-is i x y x-is y-is), said-is _ (eq-is i y (f x) y-is (f-is x x-is)), (refl, refl, (refl, closed-is _ (eq-is i x (f x) x-is (f-is x x-is)))))))
+by-trans = (closed (equal x y), (closed (equal y (f x)), (said-is _ (eq-is i x y x-is y-is), said-is _ (eq-is i y (f x) y-is (f-is x x-is)), ((refl, refl), (refl, closed-is _ (eq-is i x (f x) x-is (f-is x x-is)))))))
 
 -- a |- a; |- a ==> a; |- a from that and a
 by-assume : Concludes (Assume a) (record { hyps = one a; prop = a })
@@ -109,7 +109,7 @@ by-imp_elim = (closed (imp a a), (closed a, (by-imp_intr, said-is a a-is, (refl,
 -- |- a == a from a ==> a, twice; |- a from that and a
 by-eq_intr : Concludes (eq_intr (imp_intr a (Assume a)) (imp_intr a (Assume a))) (closed (eq prop a a))
 unfolding Concludes union
-by-eq_intr = (closed (imp a a), (closed (imp a a), (by-imp_intr, by-imp_intr, (refl, refl, (refl, closed-is _ (eq-is prop a a a-is a-is))))))
+by-eq_intr = (closed (imp a a), (closed (imp a a), (by-imp_intr, by-imp_intr, ((refl, refl), (refl, closed-is _ (eq-is prop a a a-is a-is))))))
 
 by-eq_elim : Concludes (eq_elim (eq_intr (imp_intr a (Assume a)) (imp_intr a (Assume a))) (said a)) (closed a)
 unfolding Concludes union
@@ -121,7 +121,7 @@ f_alone = free (name 102) (fun i i)
 
 by-comb : Concludes (comb (Refl f_alone) (said (equal x y))) (closed (equal (f x) (f y)))
 unfolding Concludes union dom cod happ append type_of result_type
-by-comb = (closed (eq (fun i i) f_alone f_alone), (closed (equal x y), (by-refl f_alone (tt, tt), said-is _ (eq-is i x y x-is y-is), (refl, refl, refl, (refl, closed-is _ (eq-is i (f x) (f y) (f-is x x-is) (f-is y y-is)))))))
+by-comb = (closed (eq (fun i i) f_alone f_alone), (closed (equal x y), (by-refl f_alone (tt, tt), said-is _ (eq-is i x y x-is y-is), ((refl, refl, refl), (refl, closed-is _ (eq-is i (f x) (f y) (f-is x x-is) (f-is y y-is)))))))
 
 -- |- !!x. x == x from x == x; |- y == y from that
 abbrev all_equal : Term
@@ -137,7 +137,7 @@ by-all_intr = (closed (equal x x), (by-refl x x-is.0, (refl, (refl, closed-is _ 
 
 by-all_elim : Concludes (all_elim y (all_intr (name 120) i (Refl x))) (closed (equal y y))
 unfolding Concludes happ put put_all raise raise_all same_typ same_typs type_of result_type
-by-all_elim = (closed all_equal, (by-all_intr, (y-is.0, refl, (refl, closed-is _ (eq-is i y y y-is y-is)))))
+by-all_elim = (closed all_equal, (by-all_intr, ((y-is.0, refl), (refl, closed-is _ (eq-is i y y y-is y-is)))))
 
 -- |- f == (%x. x) from f x == x, where the left side is contracted
 abbrev identity : Term
@@ -150,7 +150,7 @@ identity-is = (((omega arith, tt), refl), refl)
 by-abs : Concludes (abs (name 120) i (said (equal (f x) x))) (closed (eq (fun i i) f_alone identity))
 unfolding Concludes any_has_free abstract_over bind bind_all eta contracts ends_in_0 front occurs occurs_in lower lower_all same_typ same_typs type_of result_type dom
 by-abs =
-    (closed (equal (f x) x), (said-is _ (eq-is i (f x) x (f-is x x-is) x-is), (refl, refl, (refl, closed-is _ (eq-is (fun i i) f_alone identity ((tt, tt), refl) identity-is)))))
+    (closed (equal (f x) x), (said-is _ (eq-is i (f x) x (f-is x x-is) x-is), ((refl, refl), (refl, closed-is _ (eq-is (fun i i) f_alone identity ((tt, tt), refl) identity-is)))))
 
 -- |- !!x. a ==> p x from a ==> !!x. p x
 abbrev premise_outside : Term
@@ -169,7 +169,7 @@ premise_inside-is = ((tt, (refl, (((tt, (refl, ((tt, tt), (refl, ((tt, (refl, ((
 
 by-conv : Concludes (conv premise_inside (said premise_outside)) (closed premise_inside)
 unfolding Concludes hhf hhf_all push push_args push_under expand raise raise_all append eta contracts ends_in_0 front occurs occurs_in same_typ same_typs dom
-by-conv = (closed premise_outside, (said-is _ premise_outside-is, (refl, (refl, closed-is _ premise_inside-is))))
+by-conv = (closed premise_outside, (said-is _ premise_outside-is, ((premise_inside-is, refl), (refl, closed-is _ premise_inside-is))))
 
 -- |- y == y from ?x == ?x, where ?x is of a schematic type; y == y |- y == y from ?x == y, y == ?x |- ?x == ?x
 abbrev any_x : Typ → Term
@@ -182,7 +182,7 @@ by-inst : Concludes (inst x_is_y (Refl (any_x (Variable (name 116))))) (closed (
 unfolding Concludes IsDistinct AreTyped changes_any retype retype_all map_typ map_typs put_values inst_all union same_typ same_typs happ type_of result_type
 by-inst =
     let v = any_x (Variable (name 116)) in
-    (closed (eq (Variable (name 116)) v v), (by-refl v (tt, tt), ((tt, (tt, tt), tt, (tt, tt)), (tt, (y-is, tt)), refl, (refl, closed-is _ (eq-is i y y y-is y-is)))))
+    (closed (eq (Variable (name 116)) v v), (by-refl v (tt, tt), ((tt, (tt, tt), tt, (tt, tt)), ((tt, (y-is, tt)), refl), (refl, closed-is _ (eq-is i y y y-is y-is)))))
 
 any_x-is : HasType no_types i (any_x i)
 unfolding type_of result_type
@@ -211,14 +211,14 @@ by-round : Concludes round (record { hyps = tm_cons there (one back_again); prop
 unfolding Concludes AreProps IsDistinctTerms union added snoc among same_term same_terms same_typ same_typs dom
 by-round =
     let both : IsSequent (record { hyps = tm_cons there (one back_again); prop = equal (any_x i) (any_x i) }) = record { hyps = (there-is, (back_again-is, tt)); distinct = (refl, (refl, tt)); prop = eq-is i (any_x i) (any_x i) any_x-is any_x-is } in
-    (record { hyps = one there; prop = there }, (record { hyps = one back_again; prop = back_again }, (assumed there there-is, assumed back_again back_again-is, (refl, refl, (refl, both)))))
+    (record { hyps = one there; prop = there }, (record { hyps = one back_again; prop = back_again }, (assumed there there-is, assumed back_again back_again-is, ((refl, refl), (refl, both)))))
 
 hyps-once : Concludes (inst x_is_y round) (record { hyps = one (equal y y); prop = equal y y })
 unfolding Concludes AreProps IsDistinctTerms IsDistinct AreTyped changes_any changes changes_typ changes_typs retype retype_all map_typ map_typs put_values inst_all union added snoc among same_term same_terms same_typ same_typs happ
 hyps-once =
     let same = eq-is i y y y-is y-is in (
       record { hyps = tm_cons there (one back_again); prop = equal (any_x i) (any_x i) },
-      (by-round, ((tt, (tt, tt), tt, (tt, tt)), (tt, (y-is, tt)), refl, (refl, record { hyps = (same, tt); distinct = (refl, tt); prop = same }))),
+      (by-round, ((tt, (tt, tt), tt, (tt, tt)), ((tt, (y-is, tt)), refl), (refl, record { hyps = (same, tt); distinct = (refl, tt); prop = same }))),
     )
 
 -- an instance replaces x of type i, and no x of another type; it replaces a type in a binder

@@ -1,10 +1,10 @@
 -- What the laws say.
-use Rattle.std.specs.Prelude.{◌≡◌, ◌↔◌}
+use Rattle.std.specs.Prelude.{◌≡◌, true, ◌↔◌}
 use Rattle.iv_term.specs.declared.typ.Typ.{Typ}
 use Rattle.iv_term.specs.declared.typ.Typ.TheBlock.{Nil as no_types}
 use Rattle.iv_term.specs.declared.term.Term.{Term}
 use Rattle.iv_term.specs.Typ.{prop, fun}
-use Rattle.iv_term.specs.Term.{imp}
+use Rattle.iv_term.specs.Term.{imp, same_term}
 use Rattle.iv_hsub.specs.Typing.{HasType}
 use Rattle.iv_rules.specs.declared.derivation.Derivation.{Derivation}
 use Rattle.iv_rules.specs.Equality.{eq, all}
@@ -29,3 +29,7 @@ EqIsProp = (a : Typ) (s t : Term) → IsProp (eq a s t) ↔ (HasType no_types a 
 
 abbrev pub AllIsProp : Type 0
 AllIsProp = (a : Typ) (f : Term) → IsProp (all a f) ↔ HasType no_types (fun a prop) f
+
+-- the test of sameness, by which hypotheses are told apart, decides whether two terms are equal
+abbrev pub SameIsEqual : Type 0
+SameIsEqual = (t u : Term) → (same_term t u ≡ true) ↔ (t ≡ u)

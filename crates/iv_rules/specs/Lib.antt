@@ -3,5 +3,7 @@ pub mod Equality
 pub mod Instance
 pub mod Sequent
 pub mod Derivation
+pub mod Conditions
 pub mod Rules
 pub mod Laws
+pub mod Steps

@@ -1,5 +1,5 @@
 //! The laws of derivations, each as the contract of a function that does nothing.
-ghost use Rattle.iv_rules.specs.Laws.{ConcludesSequents, ConcludesOne, ImpIsProp, EqIsProp, AllIsProp};
+ghost use Rattle.iv_rules.specs.Laws.{ConcludesSequents, ConcludesOne, ImpIsProp, EqIsProp, AllIsProp, SameIsEqual};
 
 /// What a derivation concludes is a sequent, and there is one at most.
 pub fn conclusions_are_sequents()
@@ -13,4 +13,9 @@ pub fn parts_of_propositions()
     ensures imp { ImpIsProp }
     ensures eq { EqIsProp }
     ensures all { AllIsProp }
+{}
+
+/// Hypotheses are told apart as trees.
+pub fn hypotheses_are_told_apart()
+    ensures { SameIsEqual }
 {}

@@ -7,6 +7,7 @@
 pub mod derivation;
 pub mod instance;
 pub mod laws;
+pub mod steps;
 
 pub use derivation::Derivation;
 pub use instance::{FixedTypes, FreeTerms, Instance, SchematicTerms, SchematicTypes, VarTerms};

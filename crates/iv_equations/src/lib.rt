@@ -1,0 +1,11 @@
+//! Equations and quantified propositions: the terms that the rules of the logic make, and their conditions.
+//!
+//! [`terms`] builds them and takes them apart. [`conditions`] tests what a rule asks of its premises, and
+//! [`conclusions`] builds what a rule concludes; each contract is in the words of the rules' definition.
+#![tactic(auto)]
+
+pub mod conclusions;
+pub mod conditions;
+pub mod terms;
+#[cfg(test)]
+mod tests;
