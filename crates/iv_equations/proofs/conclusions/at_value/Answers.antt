@@ -2,7 +2,7 @@ use Rattle.std.proofs.Common.{◌≡◌}
 use Rattle.iv_term.specs.declared.typ.Typ.TheBlock.{Nil as no_types}
 use Rattle.iv_term.specs.Typ.{prop, fun}
 use Rattle.iv_hsub.specs.Typing.{type_of}
-use Rattle.iv_equations.proofs.Tests.{quantified-is, predicate_type-is}
+use Rattle.iv_equations.proofs.Deciding.{quantified-is, predicate_type-is}
 use Rattle.iv_equations.proofs.conclusions.at_value.Goals as goal
 
 pub predicate_type-requires : goal.predicate_type-requires

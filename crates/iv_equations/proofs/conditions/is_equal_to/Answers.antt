@@ -1,4 +1,4 @@
-use Rattle.iv_equations.proofs.Tests.{begins_yes, begins_no, begins_not}
+use Rattle.iv_equations.proofs.Deciding.{begins_yes, begins_no, begins_not}
 use Rattle.iv_equations.proofs.conditions.is_equal_to.Goals as goal
 
 pub returns-then-is_prop : goal.returns-then-is_prop

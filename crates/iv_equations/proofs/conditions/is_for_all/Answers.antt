@@ -1,4 +1,4 @@
-use Rattle.iv_equations.proofs.Tests.{for_all_yes, for_all_no}
+use Rattle.iv_equations.proofs.Deciding.{for_all_yes, for_all_no}
 use Rattle.iv_equations.proofs.conditions.is_for_all.Goals as goal
 
 pub returns-then-is_quantified : goal.returns-then-is_quantified

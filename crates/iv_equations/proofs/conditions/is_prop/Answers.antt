@@ -1,5 +1,5 @@
 use Rattle.iv_term.specs.Term.{abs_is}
-use Rattle.iv_equations.proofs.Tests.{no-abstraction, prop_yes}
+use Rattle.iv_equations.proofs.Deciding.{no-abstraction, prop_yes}
 use Rattle.iv_equations.proofs.conditions.is_prop.Goals as goal
 
 pub returns-in-Abs : goal.returns-in-Abs

@@ -1,4 +1,4 @@
-use Rattle.iv_equations.proofs.Tests.{no-index}
+use Rattle.iv_equations.proofs.Deciding.{no-index}
 use Rattle.iv_equations.proofs.conditions.makes_prop.Goals as goal
 
 pub returns-in-Bound : goal.returns-in-Bound

@@ -1,4 +1,4 @@
-use Rattle.iv_equations.proofs.Tests.{all_typ_yes, all_typ_no}
+use Rattle.iv_equations.proofs.Deciding.{all_typ_yes, all_typ_no}
 use Rattle.iv_equations.proofs.terms.is_all_typ.Goals as goal
 
 pub returns-then-is_predicate_on : goal.returns-then-is_predicate_on

@@ -1,4 +1,4 @@
-use Rattle.iv_equations.proofs.Tests.{const_yes, const_no}
+use Rattle.iv_equations.proofs.Deciding.{const_yes, const_no}
 use Rattle.iv_equations.proofs.terms.is_eq.Goals as goal
 
 pub returns-then-is_chars : goal.returns-then-is_chars

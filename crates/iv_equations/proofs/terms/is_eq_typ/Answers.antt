@@ -1,4 +1,4 @@
-use Rattle.iv_equations.proofs.Tests.{eq_typ_yes, eq_typ_no}
+use Rattle.iv_equations.proofs.Deciding.{eq_typ_yes, eq_typ_no}
 use Rattle.iv_equations.proofs.terms.is_eq_typ.Goals as goal
 
 pub returns-then-is_fun : goal.returns-then-is_fun

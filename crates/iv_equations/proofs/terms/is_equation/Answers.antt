@@ -1,4 +1,4 @@
-use Rattle.iv_equations.proofs.Tests.{equation_yes, equation_no}
+use Rattle.iv_equations.proofs.Deciding.{equation_yes, equation_no}
 use Rattle.iv_equations.proofs.terms.is_equation.Goals as goal
 
 pub returns-then-is_eq : goal.returns-then-is_eq

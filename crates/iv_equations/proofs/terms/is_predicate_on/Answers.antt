@@ -1,4 +1,4 @@
-use Rattle.iv_equations.proofs.Tests.{predicate_yes, predicate_no}
+use Rattle.iv_equations.proofs.Deciding.{predicate_yes, predicate_no}
 use Rattle.iv_equations.proofs.terms.is_predicate_on.Goals as goal
 
 pub returns-then-takes : goal.returns-then-takes

@@ -1,4 +1,4 @@
-use Rattle.iv_equations.proofs.Tests.{quantified_yes, quantified_no}
+use Rattle.iv_equations.proofs.Deciding.{quantified_yes, quantified_no}
 use Rattle.iv_equations.proofs.terms.is_quantified.Goals as goal
 
 pub returns-then-is_all : goal.returns-then-is_all

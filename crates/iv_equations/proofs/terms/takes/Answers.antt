@@ -1,4 +1,4 @@
-use Rattle.iv_equations.proofs.Tests.{takes_yes, takes_no}
+use Rattle.iv_equations.proofs.Deciding.{takes_yes, takes_no}
 use Rattle.iv_equations.proofs.terms.takes.Goals as goal
 
 pub returns-then-is_fun : goal.returns-then-is_fun
