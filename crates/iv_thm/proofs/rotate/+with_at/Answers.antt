@@ -1,0 +1,18 @@
+use Rattle.std.proofs.Common.{◌-◌, ◌∙◌, ap, arith}
+use Rattle.iv_term.specs.Term.{cons_is}
+use Rattle.iv_kernel.specs.Order.{listed}
+use Rattle.iv_kernel.proofs.Orders.{inserted-first, inserted-last, inserted-later, built, mapped}
+use Rattle.iv_kernel.proofs.rotate.+with_at.Goals as goal
+
+pub returns-then-place-eq0-clause-ok : goal.returns-then-place-eq0-clause-ok
+returns-then-place-eq0-clause-ok t c =
+    built _ _ _ _ c.cons.ensures.ok (rw (c.in_ok-copy.ensures.ok, c.in_ok-copy-2.ensures.ok) (inserted-first c.args.place _ _ (omega arith)))
+
+pub returns-in-Nil-clause-ok : goal.returns-in-Nil-clause-ok
+returns-in-Nil-clause-ok t c =
+    rw c.in-Nil.is (mapped _ _ _ (λ z h. ap listed h ∙ inserted-last c.args.place (c.args.place - 1) _ (omega arith)) c.only.ensures.ok)
+
+pub returns-in_ok-copy-in-Cons-clause-ok : goal.returns-in_ok-copy-in-Cons-clause-ok
+returns-in_ok-copy-in-Cons-clause-ok t c =
+    rw (c.in-Cons.is, cons_is, ← c.get.ensures, ← c.get-2.ensures)
+    (built _ _ _ _ c.cons.ensures.ok (rw c.in_ok-copy.ensures.ok (inserted-later c.args.place (c.args.place - 1) _ _ _ _ (omega arith) c.in_ok-more.ensures.ok)))

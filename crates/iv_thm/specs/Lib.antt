@@ -1,0 +1,2 @@
+pub mod Schematics
+pub mod Goal
