@@ -1,5 +1,0 @@
-use Rattle.iv_thm.proofs.thm.Thm.assume.Goals as goal
-
-pub by-requires : goal.by-requires
-by-requires c =
-    rw (c.in_ok-rule.ensures.ok, c.in_ok-hyps.ensures.ok, c.in_ok-concluded.ensures.ok) (c.propositions_are_shown.ensures.assume _ c.requires)

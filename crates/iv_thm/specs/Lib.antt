@@ -1,2 +1,0 @@
-pub mod Schematics
-pub mod Goal
