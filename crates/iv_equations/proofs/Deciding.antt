@@ -3,12 +3,12 @@ use Rattle.std.proofs.Common.{◌≡◌, ℕ, List, [], Bool, true, false, codes
 use Rattle.std.specs.Bool.{Decides}
 use Rattle.iv_term.specs.declared.typ.Typ.{Typ}
 use Rattle.iv_term.specs.declared.term.Head.{Head}
-use Rattle.iv_term.specs.declared.term.Head.TheVariants.{Const, Free, Schematic, Bound}
+use Rattle.iv_term.specs.declared.term.Head.TheVariants.{Const, Bound}
 use Rattle.iv_term.specs.declared.term.Term.{Term}
 use Rattle.iv_term.specs.declared.term.Terms.{Terms}
 use Rattle.iv_term.specs.declared.term.Term.TheBlock.{Spine, Nil}
 use Rattle.iv_term.specs.Typ.{prop, fun, ty_cons}
-use Rattle.iv_term.specs.Term.{lam, tm_cons, imp, first_or, rest_of, is_one, are_two, antecedent, consequent}
+use Rattle.iv_term.specs.Term.{lam, tm_cons, first_or, rest_of, is_one, are_two}
 use Rattle.iv_term.specs.declared.typ.Typ.TheBlock.{Con, Nil as no_types}
 use Rattle.iv_hsub.specs.Typing.{dom, cod, types_len, head_type, result_type, type_of, IsHead, IsTerm, HasType}
 use Rattle.iv_hsub.specs.Hhf.{all_typ, all_head}

@@ -1,5 +1,5 @@
 -- The pieces of a document: a piece begins at each command word, and what stands before the first is one piece. After the outer syntax of Isabelle's Reference Manual.
-use Rattle.std.specs.Prelude.{ℕ, zero, suc, ◌+◌, List, [], ◌∷◌, Bool, false, not, nat_lt}
+use Rattle.std.specs.Prelude.{ℕ, zero, suc, ◌+◌, List, [], ◌∷◌, Bool, not, nat_lt}
 use Rattle.std.specs.List.{prefix_len}
 use Rattle.iv_lex.specs.declared.cutting.Token.{Token}
 use Rattle.iv_gram.specs.declared.class.Class.{Class}

@@ -1,7 +1,6 @@
 -- Commands are read as the forms say.
 use Rattle.std.proofs.Common.{◌≡◌, ℕ, true, false, List, [], ◌∷◌, refl, sym, ◌∙◌, arith, ap}
-use Rattle.std.specs.Prelude.{Option, Some, None}
-use Rattle.iv_text.specs.declared.Pos.{Pos}
+use Rattle.std.specs.Prelude.{Option}
 use Rattle.iv_lex.specs.declared.cutting.Token.{Token}
 use Rattle.iv_gram.specs.declared.class.Class.{Class}
 use Rattle.iv_gram.specs.declared.class.Class.TheVariants as class

@@ -18,9 +18,9 @@ use Rattle.iv_forms.specs.declared.command.Obtained.{Obtained}
 use Rattle.iv_forms.specs.declared.lexeme.Lexeme.{Lexeme}
 use Rattle.iv_forms.specs.Lexeme.{Is, IsA, AreAll, no_more, one_more}
 use Rattle.iv_forms.specs.FactForm as FF
-use Rattle.iv_forms.specs.FactForm.{IsFact, IsSels, IsOptAtts, IsMoreFacts, IsFacts}
+use Rattle.iv_forms.specs.FactForm.{IsFact, IsOptAtts, IsMoreFacts, IsFacts}
 use Rattle.iv_forms.specs.PropForm as PF
-use Rattle.iv_forms.specs.PropForm.{IsLabel, IsOptLabel, IsPatterns, IsProp, IsMoreProps, IsGroup, IsMoreGroups, IsProps, IsOfType, IsVarGroup, IsMoreVars, IsVars}
+use Rattle.iv_forms.specs.PropForm.{IsOptLabel, IsProp, IsMoreProps, IsGroup, IsMoreGroups, IsProps, IsOfType, IsVarGroup, IsMoreVars, IsVars}
 use Rattle.iv_forms.specs.CommandForm as C
 use Rattle.iv_forms.specs.CommandForm.{IsParts, IsNoteGroup, IsMoreNotes, IsNotes, IsObtained}
 use Rattle.iv_facts.specs.declared.props.Named.{Named}

@@ -15,8 +15,8 @@ use Rattle.iv_hsub.specs.Laws.{HappKeepsTypes, AbstractKeepsTypes}
 use Rattle.iv_put.specs.Laws.{RetypeKeepsTypes, InstKeepsTypes}
 use Rattle.iv_rules.specs.declared.derivation.Derivation.{Derivation}
 use Rattle.iv_rules.specs.Equality.{eq, lhs, rhs, side_type, IsEquation, all, predicate, app}
-use Rattle.iv_rules.specs.Instance.{instanced, instanced_all, instanced_hyps}
-use Rattle.iv_rules.specs.Sequent.{Sequent, IsProp, AreProps, IsSequent, Gives}
+use Rattle.iv_rules.specs.Instance.{instanced, instanced_all}
+use Rattle.iv_rules.specs.Sequent.{Sequent, IsProp, AreProps, Gives}
 use Rattle.iv_rules.specs.Rules.{Concludes, Shows}
 use Rattle.iv_rules.specs.Steps.{AxiomShows, AssumeShows, ImpIntrShows, ImpElimShows, AllIntrShows, AllElimShows, ReflShows, SymShows, TransShows, CombShows, AbsShows, EqIntrShows, EqElimShows, ConvShows, InstShows}
 use Rattle.iv_rules.proofs.Conclusions.{concludes_sequents}
