@@ -1,4 +1,7 @@
 ghost use Rattle.std.specs.Prelude.{◌≡◌, ◌++◌, IfOk, IfErr, OnOk};
+ghost use Rattle.std.specs.List.{IsDistinct};
+ghost use Rattle.std.specs.Map.{keys_of};
+ghost use Rattle.iv_term.specs.Typ.{same_name};
 ghost use Rattle.iv_term.specs.declared.want.Want.TheVariants.{Memory};
 ghost use Rattle.iv_subst.specs.TySubst.{at, under, unhidden, composed};
 
@@ -13,6 +16,8 @@ impl TySubst {
         ensures ok { IfOk result (λ s. s ≡ composed self.now next.now) }
         ensures memory { IfErr result (λ w. w ≡ Memory) }
     {
+        let _entries = self.len();
+        let _next = next.len();
         let mut both = TySubst::new(alloc);
         self.add_under(alloc, next, &mut both)?;
         next.add_unhidden(self, &mut both)?;
@@ -21,19 +26,21 @@ impl TySubst {
 
     /// Puts all entries at the end of `both`, each value under `next`.
     fn add_under(&self, alloc: Global, next: &TySubst, both: &mut TySubst) -> Mem<()>
+        requires { IsDistinct same_name (keys_of (both.old ++ under (at next.now) self.now)) }
         ensures ok { OnOk result (both.new ≡ both.old ++ under (at next.now) self.now) }
         ensures memory { IfErr result (λ w. w ≡ Memory) }
     {
         for i in 0..self.len() {
             let (name, typ) = self.entry(i);
             let typ = next.apply_typ(alloc, typ)?;
-            both.add(name.copy()?, typ)?;
+            both.push(name.copy()?, typ)?;
         }
         Ok(())
     }
 
     /// Puts the entries at the end of `both` whose variables have none in `first`.
     fn add_unhidden(&self, first: &TySubst, both: &mut TySubst) -> Mem<()>
+        requires { IsDistinct same_name (keys_of (both.old ++ unhidden first.now self.now)) }
         ensures ok { OnOk result (both.new ≡ both.old ++ unhidden first.now self.now) }
         ensures memory { IfErr result (λ w. w ≡ Memory) }
     {
@@ -42,7 +49,7 @@ impl TySubst {
             if first.has(name) {
                 continue;
             }
-            both.add(name.copy()?, typ.copy()?)?;
+            both.push(name.copy()?, typ.copy()?)?;
         }
         Ok(())
     }

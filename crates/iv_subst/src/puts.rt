@@ -63,7 +63,7 @@ pub(crate) fn spread(es: &TySubst, alloc: Global) -> Mem<TySubst>
     for i in 0..es.len() {
         let (name, typ) = es.entry(i);
         let new = replaced(es, alloc, typ)?;
-        all.add(name.copy()?, new_or_copy(new, typ)?)?;
+        all.push(name.copy()?, new_or_copy(new, typ)?)?;
     }
     Ok(all)
 }

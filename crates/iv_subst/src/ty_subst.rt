@@ -1,17 +1,21 @@
 ghost use Rattle.std.specs.Prelude.{◌≡◌, [], ◌∷◌, ◌++◌, None, Some, ◌<◌, length, IfOk, IfErr, OnOk, OnErr, slice_get};
+ghost use Rattle.std.specs.List.{IsDistinct};
+ghost use Rattle.std.specs.Map.{keys_of};
 ghost use Rattle.std.specs.Option.{option_copied};
+ghost use Rattle.iv_term.specs.Typ.{same_name};
 ghost use Rattle.iv_term.specs.declared.want.Want.TheVariants.{Memory};
 ghost use Rattle.iv_subst.specs.TySubst.{seek, has};
 
+use iv_map::NameMap;
 use iv_term::{Mem, Name, Typ};
 use std::alloc::Global;
 use std::marker::Model;
 
 /// A finite map from schematic type variables to types, in the order in which they were entered. Contracts see the
-/// list of its entries.
+/// list of its entries; no two have one variable.
 #[derive(Drop)]
 pub struct TySubst {
-    entries: Vec<(Name, Typ)>,
+    entries: NameMap<Typ>,
 }
 
 impl Model for TySubst {
@@ -24,7 +28,7 @@ impl Model for TySubst {
 
     ghost coded = { Prim.hlevel (codes, a_name.the_row.coded, a_typ.the_row.coded) };
 
-    ghost view = { λ s. s.entries.items };
+    ghost view = { λ s. s.entries };
 }
 
 impl TySubst {
@@ -33,13 +37,14 @@ impl TySubst {
         ensures { result ≡ [] }
     {
         TySubst {
-            entries: Vec::new(alloc),
+            entries: NameMap::new(alloc),
         }
     }
 
     /// How many variables have an entry.
     pub fn len(&self) -> usize
-        ensures { result ≡ length self.now }
+        ensures same { result ≡ length self.now }
+        ensures apart { IsDistinct same_name (keys_of self.now) }
     {
         self.entries.len()
     }
@@ -49,20 +54,14 @@ impl TySubst {
         requires { index < length self.now }
         ensures { slice_get self.now index ≡ Some (result.0.now, result.1.now) }
     {
-        let entry = &self.entries[index];
-        (&entry.0, &entry.1)
+        self.entries.entry(index)
     }
 
     /// The type that is put for a variable, where it has an entry. Takes no memory.
     pub fn get(&self, name: &Name) -> Option<&Typ>
         ensures { option_copied result ≡ seek self.now name.now }
     {
-        for entry in self.entries.as_slice() {
-            if name.is(&entry.0) {
-                return Some(&entry.1);
-            }
-        }
-        None
+        self.entries.get(name)
     }
 
     /// Whether a variable has an entry. Takes no memory.
@@ -79,17 +78,7 @@ impl TySubst {
         ensures err { OnErr result (self.new ≡ self.old) }
         ensures memory { IfErr result (λ w. w ≡ Memory) }
     {
-        self.add(name, typ)
-    }
-
-    /// Puts an entry at the end.
-    pub(crate) fn add(&mut self, name: Name, typ: Typ) -> Mem<()>
-        ensures ok { OnOk result (self.new ≡ self.old ++ (name, typ) ∷ []) }
-        ensures err { OnErr result (self.new ≡ self.old) }
-        ensures memory { IfErr result (λ w. w ≡ Memory) }
-    {
-        self.entries.push((name, typ))?;
-        Ok(())
+        self.entries.push(name, typ)
     }
 
     /// An equal map; its types are shared. Fails where memory runs out.
@@ -97,11 +86,8 @@ impl TySubst {
         ensures ok { IfOk result (λ s. s ≡ self.now) }
         ensures memory { IfErr result (λ w. w ≡ Memory) }
     {
-        let mut copy = TySubst::new(alloc);
-        for i in 0..self.len() {
-            let (name, typ) = self.entry(i);
-            copy.add(name.copy()?, typ.copy()?)?;
-        }
-        Ok(copy)
+        Ok(TySubst {
+            entries: self.entries.copy(alloc)?,
+        })
     }
 }

@@ -1,8 +1,10 @@
 -- What the code's loops over a map's entries keep.
-use Rattle.std.proofs.Common.{◌≡◌, ℕ, Bool, true, false, refl, sym, ◌∙◌, ap, List, [], ◌∷◌, ◌++◌, Option, None, Some, if◌then◌else◌, ◌≤◌, ◌<◌, ◌+◌, length, drop, slice_get, is_some, get_or, IfOk, Bor}
+use Rattle.std.proofs.Common.{◌≡◌, ℕ, Bool, true, false, refl, sym, ◌∙◌, ap, List, [], ◌∷◌, ◌++◌, Option, None, Some, if◌then◌else◌, ◌≤◌, ◌+◌, length, drop, slice_get, is_some, IfOk, Bor}
 use Rattle.std.specs.Option.{unwrap_or, option_copied}
 use Rattle.std.specs.Prelude.{Result}
-use Rattle.std.proofs.lemmas.List.{append_assoc, append-nil, drop_more, drop_all}
+use Rattle.std.specs.List.{IsDistinct}
+use Rattle.std.specs.Map.{keys_of}
+use Rattle.std.proofs.lemmas.List.{append_assoc, append-nil, map-append, drop_more, drop_all}
 use Rattle.std.proofs.lemmas.Option.{slice_get_within, get_or_from_slice_get}
 use Rattle.std.proofs.lemmas.Result.{IfOk-weaker}
 use Rattle.iv_term.specs.declared.want.Want.{Want}
@@ -11,7 +13,9 @@ use Rattle.iv_term.specs.declared.typ.Typ.{Typ}
 use Rattle.iv_term.specs.declared.typ.Types.{Types}
 use Rattle.iv_term.specs.declared.typ.Typ.TheBlock.{Con, Schematic}
 use Rattle.iv_term.specs.Typ.{ty_cons, same_name}
-use Rattle.iv_subst.specs.TySubst.{put_typ, TyMap, seek, at, has, under, unhidden}
+use Rattle.iv_map.specs.NameMap.{look}
+use Rattle.iv_map.proofs.Entries.{new-name, among, others, apart-others}
+use Rattle.iv_subst.specs.TySubst.{put_typ, TyMap, seek, at, has, under, unhidden, composed}
 
 at-seek-by : (e : Name × Typ) (y : Name) (o : Option Typ) (b : Typ) (v : Bool) → unwrap_or o (Schematic y) ≡ b
     → unwrap_or (if v then Some e.1 else o) (Schematic y) ≡ (if v then e.1 else b)
@@ -39,32 +43,7 @@ has-seek (e ∷ s) y = has-seek-by e (seek s y) (has s y) (same_name y e.0) (has
 pub drop-at : {X : Type 0} (s : List X) (i : ℕ) (e : X) → slice_get s i ≡ Some e → drop i s ≡ e ∷ drop (i + 1) s
 drop-at s i e h = drop_more s i e (slice_get_within s i e h) ∙ ap (λ z. z ∷ drop (i + 1) s) (get_or_from_slice_get s i e e h)
 
-pub seek-here : (s0 s : TyMap) (i : ℕ) (e : Name × Typ) (y : Name) → seek s0 y ≡ seek (drop i s) y → i < length s → e ≡ get_or s i e
-    → same_name y e.0 ≡ true → Some e.1 ≡ seek s0 y
-unfolding seek
-seek-here s0 s i e y k l g q =
-    let h : drop i s ≡ e ∷ drop (i + 1) s = drop_more s i e l ∙ ap (λ z. z ∷ drop (i + 1) s) (sym g) in
-    let step : seek (e ∷ drop (i + 1) s) y ≡ Some e.1 = rw q refl in
-    sym (k ∙ ap (λ z. seek z y) h ∙ step)
-
-pub seek-on : (s0 s : TyMap) (i : ℕ) (e : Name × Typ) (y : Name) → seek s0 y ≡ seek (drop i s) y → i < length s → e ≡ get_or s i e
-    → same_name y e.0 ≡ false → seek s0 y ≡ seek (drop (i + 1) s) y
-unfolding seek
-seek-on s0 s i e y k l g q =
-    let h : drop i s ≡ e ∷ drop (i + 1) s = drop_more s i e l ∙ ap (λ z. z ∷ drop (i + 1) s) (sym g) in
-    let step : seek (e ∷ drop (i + 1) s) y ≡ seek (drop (i + 1) s) y = rw q refl in
-    k ∙ ap (λ z. seek z y) h ∙ step
-
-pub seek-end : (s0 s : TyMap) (i : ℕ) (y : Name) → seek s0 y ≡ seek (drop i s) y → length s ≤ i → None ≡ seek s0 y
-unfolding seek
-seek-end s0 s i y k l = sym (k ∙ ap (λ z. seek z y) (drop_all i s l))
-
 -- one more entry written
-pub copied-on : (out0 out out2 s : TyMap) (i : ℕ) (x : Name) (t : Typ) → slice_get s i ≡ Some (x, t) → out ++ drop i s ≡ out0 ++ s
-    → out2 ≡ out ++ (x, t) ∷ [] → out2 ++ drop (i + 1) s ≡ out0 ++ s
-copied-on out0 out out2 s i x t g h q = ap (λ z. z ++ drop (i + 1) s) q ∙ append_assoc out ((x, t) ∷ []) (drop (i + 1) s)
-    ∙ ap (λ z. out ++ z) (sym (drop-at s i (x, t) g)) ∙ h
-
 pub under-on : (f : Name → Typ) (out0 out out2 s : TyMap) (i : ℕ) (x : Name) (t u : Typ) → slice_get s i ≡ Some (x, t)
     → out ++ under f (drop i s) ≡ out0 ++ under f s → u ≡ put_typ f t → out2 ≡ out ++ (x, u) ∷ []
     → out2 ++ under f (drop (i + 1) s) ≡ out0 ++ under f s
@@ -90,9 +69,6 @@ hidden-on r out0 out s i x t g h e =
     ap (λ z. out ++ z) (sym step) ∙ ap (λ z. out ++ unhidden r z) (sym (drop-at s i (x, t) g)) ∙ h
 
 -- at the loop's end nothing is left
-pub copied-end : (out s : TyMap) (i : ℕ) → out ++ drop i s ≡ s → length s ≤ i → out ≡ s
-copied-end out s i h l = sym (append-nil out) ∙ ap (λ z. out ++ z) (sym (drop_all i s l)) ∙ h
-
 pub under-end : (f : Name → Typ) (out0 out s : TyMap) (i : ℕ) → out ++ under f (drop i s) ≡ out0 ++ under f s → length s ≤ i → out ≡ out0 ++ under f s
 unfolding under
 under-end f out0 out s i h l = sym (append-nil out) ∙ ap (λ z. out ++ under f z) (sym (drop_all i s l)) ∙ h
@@ -100,6 +76,57 @@ under-end f out0 out s i h l = sym (append-nil out) ∙ ap (λ z. out ++ under f
 pub unhidden-end : (r out0 out s : TyMap) (i : ℕ) → out ++ unhidden r (drop i s) ≡ out0 ++ unhidden r s → length s ≤ i → out ≡ out0 ++ unhidden r s
 unfolding unhidden
 unhidden-end r out0 out s i h l = sym (append-nil out) ∙ ap (λ z. out ++ unhidden r z) (sym (drop_all i s l)) ∙ h
+
+-- the entry of a variable, as a map by name has it
+pub seek-look : (s : TyMap) (y : Name) → seek s y ≡ look s y
+unfolding seek
+seek-look [] y = refl
+seek-look (e ∷ s) y = ap (λ o. if same_name y e.0 then Some e.1 else o) (seek-look s y)
+
+-- no two entries of what is written have one variable
+
+keys-under : (f : Name → Typ) (s : TyMap) → keys_of (under f s) ≡ keys_of s
+unfolding under
+keys-under f [] = refl
+keys-under f (e ∷ s) = ap (λ ks. e.0 ∷ ks) (keys-under f s)
+
+has-among : (s : TyMap) (y : Name) → has s y ≡ among (keys_of s) y
+unfolding has
+has-among [] y = refl
+has-among (e ∷ s) y = ap (λ b. if same_name y e.0 then true else b) (has-among s y)
+
+keys-kept : (e : Name × Typ) (r : TyMap) (ks : List Name) (b : Bool) → keys_of r ≡ ks → keys_of (if b then r else e ∷ r) ≡ (if b then ks else e.0 ∷ ks)
+keys-kept e r ks true h = h
+keys-kept e r ks false h = ap (λ z. e.0 ∷ z) h
+
+keys-unhidden : (s r : TyMap) → keys_of (unhidden s r) ≡ others (keys_of s) (keys_of r)
+unfolding unhidden
+keys-unhidden s [] = refl
+keys-unhidden s (e ∷ r) = rw (has-among s e.0) (keys-kept e (unhidden s r) (others (keys_of s) (keys_of r)) (among (keys_of s) e.0) (keys-unhidden s r))
+
+pub apart-under : (f : Name → Typ) (s : TyMap) → IsDistinct same_name (keys_of s) → IsDistinct same_name (keys_of (under f s))
+apart-under f s d = rw (keys-under f s) d
+
+pub apart-composed : (s r : TyMap) → IsDistinct same_name (keys_of s) → IsDistinct same_name (keys_of r) → IsDistinct same_name (keys_of (composed s r))
+unfolding composed
+apart-composed s r d e =
+    let keys : keys_of (composed s r) ≡ keys_of s ++ others (keys_of s) (keys_of r) =
+    map-append (λ z. z.0) (under (at r) s) (unhidden s r) ∙ (λ i. keys-under (at r) s i ++ keys-unhidden s r i) in
+    rw keys (apart-others (keys_of s) (keys_of r) d e)
+
+pub under-new : (f : Name → Typ) (out0 out s : TyMap) (i : ℕ) (x y : Name) (t : Typ) → slice_get s i ≡ Some (x, t)
+    → out ++ under f (drop i s) ≡ out0 ++ under f s → IsDistinct same_name (keys_of (out0 ++ under f s)) → y ≡ x → seek out y ≡ None
+unfolding under
+under-new f out0 out s i x y t g h d e =
+    seek-look out y ∙ new-name out (out0 ++ under f s) (under f (drop (i + 1) s)) x y (put_typ f t) (ap (λ z. out ++ under f z) (sym (drop-at s i (x, t) g)) ∙ h) d e
+
+pub unhidden-new : (r out0 out s : TyMap) (i : ℕ) (x y : Name) (t : Typ) → slice_get s i ≡ Some (x, t)
+    → out ++ unhidden r (drop i s) ≡ out0 ++ unhidden r s → has r x ≡ false → IsDistinct same_name (keys_of (out0 ++ unhidden r s)) → y ≡ x → seek out y ≡ None
+unfolding unhidden
+unhidden-new r out0 out s i x y t g h n d e =
+    let step : unhidden r ((x, t) ∷ drop (i + 1) s) ≡ (x, t) ∷ unhidden r (drop (i + 1) s) = rw n refl in
+    seek-look out y ∙ new-name out (out0 ++ unhidden r s) (unhidden r (drop (i + 1) s)) x y t
+    (ap (λ z. out ++ z) (sym (ap (unhidden r) (drop-at s i (x, t) g) ∙ step)) ∙ h) d e
 
 -- a type whose parts may be new
 
