@@ -2,7 +2,7 @@
 use Rattle.std.proofs.Common.{◌≡◌, ℕ, Bool, true, false, List, [], ◌∷◌, ◌++◌, refl, sym, ap, ◌∙◌, subst, inl, inr, ◌⊎◌, if◌then◌else◌, append_assoc}
 use Rattle.std.specs.Prelude.{Option, Some, None}
 use Rattle.std.proofs.lemmas.List.{append-nil}
-use Rattle.iv_term.specs.Derivation.{Derivable}
+use Rattle.iv_rules.specs.Rules.{Derivable}
 use Rattle.isarvm.specs.declared.commands.Command.{Command}
 use Rattle.isarvm.specs.declared.commands.Form.{Form}
 use Rattle.isarvm.specs.declared.commands.Form.TheVariants.{Header, Prose, Lemma, ByAssumption, Oops, End, Unreadable}

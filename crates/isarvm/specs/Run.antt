@@ -1,7 +1,7 @@
 -- The run of a document and its report. Of this project.
 use Rattle.std.specs.Prelude.{◌≡◌, ℕ, ◌+◌, Bool, true, false, ◌&&◌, if◌then◌else◌, List, [], ◌∷◌, ◌++◌, length, drop, encode_utf8_all}
 use Rattle.std.specs.List.{flat_map}
-use Rattle.iv_term.specs.Derivation.{Derivable}
+use Rattle.iv_rules.specs.Rules.{Derivable}
 use Rattle.isarvm.specs.declared.commands.Command.{Command}
 use Rattle.iv_report.specs.Place.{line_of, column_of}
 use Rattle.isarvm.specs.Machine.{Finished, Machine, Stage, Ended, Outcome, Refused, Accepted, start, executed, next}

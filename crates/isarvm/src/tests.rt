@@ -1,64 +1,73 @@
 use crate::commands::{Command, Form, commands};
 use iv_report::LIMIT;
 use iv_term::Text;
-use std::test::Fail;
+use std::alloc::Global;
+use std::process::Abort;
 
-fn push_text(out: &mut String, text: &Text) -> Result<(), Fail> {
-    for c in text.as_slice() {
-        out.push(*c)?;
-    }
-    Ok(())
+fn push(rt: &impl Abort, out: &mut String, part: &str) {
+    out.push_str(part).expect(rt, "memory");
 }
 
-fn push_form(out: &mut String, form: &Form) -> Result<(), Fail> {
+fn push_text(rt: &impl Abort, out: &mut String, text: &Text) {
+    for c in text.as_slice() {
+        out.push(*c).expect(rt, "memory");
+    }
+}
+
+/// Texts, each behind a space.
+fn push_texts(rt: &impl Abort, out: &mut String, texts: &[Text]) {
+    for text in texts {
+        push(rt, out, " ");
+        push_text(rt, out, text);
+    }
+}
+
+fn push_form(rt: &impl Abort, out: &mut String, form: &Form) {
     match form {
         Form::Header(imports) => {
-            out.push_str("theory")?;
-            for import in imports.as_slice() {
-                out.push(' ')?;
-                push_text(out, import)?;
-            }
+            push(rt, out, "theory");
+            push_texts(rt, out, imports.as_slice());
         }
-        Form::Prose => out.push_str("prose")?,
+        Form::Prose => push(rt, out, "prose"),
         Form::Lemma(name, parts) => {
-            push_text(out, name)?;
+            push_text(rt, out, name);
             let (premises, conclusion) = parts.split();
-            for premise in premises {
-                out.push(' ')?;
-                push_text(out, premise)?;
-            }
-            out.push(' ')?;
-            push_text(out, conclusion)?;
+            push_texts(rt, out, premises);
+            push(rt, out, " ");
+            push_text(rt, out, conclusion);
         }
-        Form::ByAssumption => out.push_str("assumption")?,
-        Form::Oops => out.push_str("oops")?,
-        Form::End => out.push_str("end")?,
+        Form::ByAssumption => push(rt, out, "assumption"),
+        Form::Oops => push(rt, out, "oops"),
+        Form::End => push(rt, out, "end"),
         Form::Unreadable(at) => {
             let at = at.0;
-            write!(out, "?{at}")?;
+            write!(out, "?{at}").expect(rt, "memory");
         }
     }
-    Ok(())
+}
+
+fn push_command(rt: &impl Abort, out: &mut String, command: &Command) {
+    let at = command.at.0;
+    write!(out, "{at} ").expect(rt, "memory");
+    push_text(rt, out, &command.word);
+    push(rt, out, " ");
+    push_form(rt, out, &command.form);
+    push(rt, out, ";");
 }
 
 /// Each command as its offset, its word and its form.
-fn listed_commands(rt: &HostRuntime, document: &[u8]) -> Result<String, Fail> {
-    let mut out = String::new(rt.alloc());
+fn listed_commands(rt: &impl Abort, alloc: Global, document: &[u8]) -> String {
+    let mut out = String::new(alloc);
     if document.len() <= LIMIT {
-        for command in &commands(rt.alloc(), document)? {
-            let at = command.at.0;
-            write!(&mut out, "{at} ")?;
-            push_text(&mut out, &command.word)?;
-            out.push(' ')?;
-            push_form(&mut out, &command.form)?;
-            out.push(';')?;
+        for command in &commands(alloc, document).expect(rt, "memory") {
+            push_command(rt, &mut out, command);
         }
     }
-    Ok(out)
+    out
 }
 
 #[test]
-fn documents_as_commands(rt: HostRuntime) -> Result<(), Fail> {
+fn documents_as_commands(rt: HostRuntime) {
     let rows = [
         (
             "lemma a: \"PROP A ==> PROP A\" by assumption end",
@@ -90,8 +99,7 @@ fn documents_as_commands(rt: HostRuntime) -> Result<(), Fail> {
         ("theorem a: \"PROP A\" qed", "0 theorem ?0;20 qed ?20;"),
     ];
     for (document, expected) in rows {
-        let listed = listed_commands(&rt, document.as_bytes())?;
+        let listed = listed_commands(&rt, rt.alloc(), document.as_bytes());
         assert_eq!(rt; listed.as_str(), expected);
     }
-    Ok(())
 }

@@ -1,6 +1,6 @@
 -- What the law says.
 use Rattle.std.specs.Prelude.{◌≡◌, ℕ, true, List, []}
-use Rattle.iv_term.specs.Derivation.{Derivable}
+use Rattle.iv_rules.specs.Rules.{Derivable}
 use Rattle.iv_claims.specs.Statement.{schematic_var, statement_of, is_solved}
 
 -- a statement with its conclusion among its premises follows from no hypothesis and no axiom

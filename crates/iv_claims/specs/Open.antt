@@ -1,7 +1,7 @@
 -- An open claim. Of this project.
 use Rattle.std.specs.Prelude.{◌≡◌, [], ◌∷◌}
 use Rattle.iv_term.specs.declared.term.Term.TheBlock.{Nil}
-use Rattle.iv_term.specs.Derivation.{axioms_of}
+use Rattle.iv_rules.specs.Rules.{axioms_of}
 use Rattle.iv_claims.specs.declared.claim.Claim.{Claim}
 use Rattle.iv_claims.specs.Statement.{free_var, statement_of}
 

@@ -1,5 +1,5 @@
 -- Statements as terms, and when a premise is the conclusion. Of this project.
-use Rattle.std.specs.Prelude.{ℕ, Bool, false, ◌||◌, List, [], ◌∷◌, is_none, if◌then◌else◌}
+use Rattle.std.specs.Prelude.{ℕ, Bool, false, ◌||◌, List, [], ◌∷◌, ◌++◌, is_none, if◌then◌else◌}
 use Rattle.std.specs.List.{list_any}
 use Rattle.std.specs.Str.{bytes_eq}
 use Rattle.iv_term.specs.declared.name.Name.{Name}
@@ -7,10 +7,10 @@ use Rattle.iv_term.specs.declared.term.Term.{Term}
 use Rattle.iv_term.specs.declared.term.Head.TheVariants.{Free, Schematic}
 use Rattle.iv_term.specs.declared.term.Term.TheBlock.{Spine, Nil}
 use Rattle.iv_term.specs.declared.term.Terms.{Terms}
-use Rattle.iv_term.specs.declared.instance.VarTerms.{VarTerms}
 use Rattle.iv_term.specs.Typ.{prop}
 use Rattle.iv_term.specs.Term.{imp, tm_cons}
-use Rattle.iv_term.specs.Instance.{entry, value_at}
+use Rattle.iv_rules.specs.declared.instance.Instance.{Instance}
+use Rattle.iv_rules.specs.Entries.{VarMap, term_at}
 
 -- the name of this text, with the number 0
 abbrev pub name_of : List ℕ → Name
@@ -41,13 +41,17 @@ is_solved (p ∷ []) = false
 is_solved (p ∷ q ∷ qs) = bytes_eq p (last_of q qs) || is_solved (q ∷ qs)
 
 -- what is put for the free variable of a text: its schematic one, unless something is put for it already
-unfoldable pub with_entry : List ℕ → VarTerms → VarTerms
-with_entry p s = if is_none (value_at s (name_of p) prop) then entry (name_of p) prop (schematic_var p) s else s
+unfoldable pub with_entry : List ℕ → VarMap → VarMap
+with_entry p es = if is_none (term_at es (name_of p) prop) then es ++ ((name_of p, prop), schematic_var p) ∷ [] else es
 
 -- the same for each of some texts
-unfoldable pub with_entries : List (List ℕ) → VarTerms → VarTerms
-with_entries [] s = s
-with_entries (p ∷ ps) s = with_entries ps (with_entry p s)
+unfoldable pub with_entries : List (List ℕ) → VarMap → VarMap
+with_entries [] es = es
+with_entries (p ∷ ps) es = with_entries ps (with_entry p es)
+
+-- these entries are put for free variables, and nothing else
+abbrev pub general : VarMap → Instance
+general es = record { fixed = []; types = []; frees = es; schematics = [] }
 
 -- the hypotheses of a statement that is proved from its conclusion: none where a premise is the conclusion
 unfoldable pub open_hyps : List (List ℕ) → List ℕ → Terms

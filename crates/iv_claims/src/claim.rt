@@ -8,6 +8,7 @@ use crate::parts::Parts;
 use crate::prove::{from_conclusion, generalised};
 use crate::statement;
 use iv_kernel::{Goal, Thm};
+use iv_rules::laws::parts_of_propositions;
 use iv_term::{Mem, Text};
 use std::alloc::Global;
 
@@ -30,6 +31,7 @@ impl Claim {
         ensures open { IfOk result (λ c. IsOpen c) }
         ensures memory { IfErr result (λ w. w ≡ Memory) }
     {
+        parts_of_propositions();
         let (premises, conclusion) = parts.split();
         let claim = statement::statement(alloc, premises, conclusion)?;
         let goal = Goal::init(alloc, &claim)?;

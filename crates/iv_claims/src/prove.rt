@@ -1,14 +1,13 @@
 ghost use Rattle.std.specs.Prelude.{◌≡◌, [], ◌∷◌, ◌++◌, IfOk, IfErr};
 ghost use Rattle.iv_term.specs.declared.want.Want.TheVariants.{Memory};
 ghost use Rattle.iv_term.specs.declared.term.Term.TheBlock.{Nil};
-ghost use Rattle.iv_term.specs.declared.instance.VarTerms.TheBlock.{Nil as no_entries};
-ghost use Rattle.iv_term.specs.Derivation.{axioms_of};
-ghost use Rattle.iv_kernel.specs.Proved.{Kept};
-ghost use Rattle.iv_claims.specs.Statement.{free_var, schematic_var, statement_of, with_entry, with_entries, open_hyps};
+ghost use Rattle.iv_rules.specs.Rules.{axioms_of, Kept};
+ghost use Rattle.iv_claims.specs.Statement.{free_var, schematic_var, statement_of, with_entry, with_entries, general, open_hyps};
 
 use crate::statement::{free_var, name_of, schematic_var};
 use iv_kernel::Thm;
-use iv_term::{Instance, Mem, Text, Typ, VarTerms};
+use iv_rules::{FixedTypes, Instance, SchematicTypes, VarTerms};
+use iv_term::{Mem, Text, Typ};
 use std::alloc::Global;
 
 /// The theorem that a statement follows from its conclusion, which is no hypothesis any more where it is a
@@ -32,30 +31,44 @@ pub fn from_conclusion(alloc: Global, premises: &[Text], conclusion: &Text) -> M
 
 /// The entries with one that puts the schematic variable of a text for its free one, where there is none
 /// yet. Fails where memory runs out.
-fn with_entry(alloc: Global, text: &Text, entries: VarTerms) -> Mem<VarTerms>
+fn with_entry(alloc: Global, text: &Text, mut entries: VarTerms) -> Mem<VarTerms>
     ensures ok { IfOk result (λ s. s ≡ with_entry text.now entries) }
     ensures memory { IfErr result (λ w. w ≡ Memory) }
 {
     let name = name_of(text)?;
     let prop = Typ::prop(alloc)?;
-    if entries.lacks(&name, &prop) {
-        let value = schematic_var(alloc, text)?;
-        VarTerms::cons(alloc, name, prop, value, entries)
-    } else {
-        Ok(entries)
+    if entries.get(&name, &prop).is_some() {
+        return Ok(entries);
     }
+    let value = schematic_var(alloc, text)?;
+    entries.push(name, prop, value)?;
+    Ok(entries)
 }
 
 /// Entries that put the schematic variables of some texts for their free ones. Fails where memory runs out.
 fn schematic_entries(alloc: Global, premises: &[Text], conclusion: &Text) -> Mem<VarTerms>
-    ensures ok { IfOk result (λ s. s ≡ with_entries premises.now (with_entry conclusion.now no_entries)) }
+    ensures ok { IfOk result (λ s. s ≡ with_entries premises.now (with_entry conclusion.now [])) }
     ensures memory { IfErr result (λ w. w ≡ Memory) }
 {
-    let mut entries = with_entry(alloc, conclusion, VarTerms::Nil)?;
+    let mut entries = with_entry(alloc, conclusion, VarTerms::new(alloc))?;
     for premise in premises {
         entries = with_entry(alloc, premise, entries)?;
     }
     Ok(entries)
+}
+
+/// What makes the free variables of a statement schematic. Fails where memory runs out.
+fn generalising(alloc: Global, premises: &[Text], conclusion: &Text) -> Mem<Instance>
+    ensures ok { IfOk result (λ s. s ≡ general (with_entries premises.now (with_entry conclusion.now []))) }
+    ensures memory { IfErr result (λ w. w ≡ Memory) }
+{
+    let frees = schematic_entries(alloc, premises, conclusion)?;
+    Ok(Instance {
+        fixed: FixedTypes::new(alloc),
+        types: SchematicTypes::new(alloc),
+        frees,
+        schematics: VarTerms::new(alloc),
+    })
 }
 
 /// A proved statement with its free variables made schematic. Fails where memory runs out.
@@ -68,10 +81,6 @@ pub fn generalised(alloc: Global, thm: &Thm, premises: &[Text], conclusion: &Tex
     ensures kept { IfOk result (λ t. Kept t) }
     ensures memory { IfErr result (λ w. w ≡ Memory) }
 {
-    let frees = schematic_entries(alloc, premises, conclusion)?;
-    let instance = Instance {
-        frees,
-        schematics: VarTerms::Nil,
-    };
+    let instance = generalising(alloc, premises, conclusion)?;
     Thm::inst(alloc, &instance, thm)
 }

@@ -1,1 +1,4 @@
-pub mod Laws
+pub mod Results
+pub mod Goals
+pub mod Variables
+pub mod Orders

@@ -1,2 +1,3 @@
+pub mod Schematics
 pub mod Goal
-pub mod Proved
+pub mod Order

@@ -1,18 +1,24 @@
 ghost use Rattle.std.specs.Prelude.{◌≡◌, ℕ, ◌-◌, ◌≤◌, ◌<◌, [], ◌∷◌, length, slice_get, Some, IfOk, IfErr, IsTrue, ◌↔◌};
-ghost use Rattle.iv_term.specs.Term.{imp, IsProposition};
-ghost use Rattle.iv_term.specs.Derivation.{imp_intr};
-ghost use Rattle.iv_term.specs.declared.want.Want.TheVariants.{Memory};
+ghost use Rattle.iv_term.specs.declared.want.Want.TheVariants.{Memory, Number};
 ghost use Rattle.iv_term.specs.declared.term.Term.TheBlock.{Nil};
-ghost use Rattle.iv_term.specs.declared.derivation.Derivation.TheBlock.{Assume};
-ghost use Rattle.iv_kernel.specs.Goal.{goal_prop, premises_of, IsGoalProp};
+ghost use Rattle.iv_term.specs.Term.{imp};
+ghost use Rattle.iv_hsub.specs.Hhf.{hhf};
+ghost use Rattle.iv_hsub.specs.Made.{IsPast, made_hhf};
+ghost use Rattle.iv_rules.specs.declared.derivation.Derivation.TheBlock.{Assume};
+ghost use Rattle.iv_rules.specs.Derivation.{imp_intr, conv};
+ghost use Rattle.iv_rules.specs.Sequent.{IsProp};
+ghost use Rattle.iv_kernel.specs.Goal.{goal_prop, premises_of, IsInForm, AreInForm, IsGoal, made_forms};
 
 use crate::thm::Thm;
+use iv_hsub::hhf;
+use iv_hsub::laws::hhf_is_a_normal_form;
+use iv_rules::laws::hypotheses_are_told_apart;
 use iv_term::{Mem, Term};
 use std::alloc::Global;
 use std::marker::Model;
 
 /// A goal: a theorem `S1 ==> .. ==> Sn ==> C`, read as the subgoals S1 to Sn that are left of the claim C.
-/// Each counts as a unit, since the goal keeps n.
+/// Each counts as a unit, since the goal keeps n. In each subgoal every `!!` stands in front of `==>`.
 #[derive(Drop)]
 pub struct Goal {
     thm: Thm,
@@ -30,37 +36,33 @@ impl Model for Goal {
 
     ghost coded = { Prim.hlevel (codes, a_term.the_row.coded, a_thm.the_row.coded) };
 
-    ghost use Rattle.iv_kernel.specs.Goal.{premises_of, IsGoalProp};
+    ghost use Rattle.iv_kernel.specs.Goal.{premises_of, IsGoal};
 
     ghost view = { λ g. record { subgoals = premises_of g.count g.thm.prop; claim = g.claim; thm = g.thm } };
 
-    ghost invariant = { λ g. IsGoalProp g.count g.thm.prop g.claim };
+    ghost invariant = { λ g. IsGoal g.count g.thm.prop g.claim };
 }
 
 impl Goal {
-    /// A claim as its own only subgoal. Fails where memory runs out.
+    /// A claim as its own only subgoal, with each `!!` in front of `==>`. Fails where memory runs out; with `Number` only
+    /// where an index or a depth that is made on the way is 4,294,967,295 or more.
     pub fn init(alloc: Global, claim: &Term) -> Mem<Goal>
-        requires { IsProposition claim.now }
-        ensures subgoals { IfOk result (λ g. g.subgoals ≡ claim.now ∷ []) }
+        requires { IsProp claim.now }
+        ensures subgoals { IfOk result (λ g. g.subgoals ≡ hhf claim.now ∷ []) }
         ensures claim { IfOk result (λ g. g.claim ≡ claim.now) }
         ensures hyps { IfOk result (λ g. g.thm.hyps ≡ Nil) }
-        ensures derivation { IfOk result (λ g. g.thm.derivation ≡ imp_intr claim.now (Assume claim.now)) }
-        ensures memory { IfErr result (λ w. w ≡ Memory) }
+        ensures derivation { IfOk result (λ g. g.thm.derivation ≡ imp_intr (hhf claim.now) (conv claim.now (Assume (hhf claim.now)))) }
+        ensures number { IfErr result (λ w. w ≡ Number → IsPast (made_hhf claim.now)) }
     {
-        let assumed = Thm::assume(alloc, claim)?;
-        let thm = Thm::imp_intr(alloc, claim, &assumed)?;
-        let claim = claim.copy()?;
-        Ok(Goal {
-            thm,
-            count: 1,
-            claim,
-        })
+        hhf_is_a_normal_form();
+        let thm = form_implies(alloc, claim)?;
+        Goal::made(thm, 1, claim)
     }
 
-    /// A theorem whose proposition is `S1 ==> .. ==> Sn ==> claim`, as a goal with n subgoals. Fails where
-    /// a count of owners is full.
+    /// A theorem whose proposition is `S1 ==> .. ==> Sn ==> claim`, as a goal with n subgoals, in each of which every `!!`
+    /// stands in front of `==>`. Fails where a count of owners is full.
     pub fn made(thm: Thm, count: u32, claim: &Term) -> Mem<Goal>
-        requires { IsGoalProp count thm.prop claim.now }
+        requires { IsGoal count thm.prop claim.now }
         ensures subgoals { IfOk result (λ g. g.subgoals ≡ premises_of count thm.prop) }
         ensures claim { IfOk result (λ g. g.claim ≡ claim.now) }
         ensures thm { IfOk result (λ g. g.thm ≡ thm) }
@@ -70,12 +72,13 @@ impl Goal {
         Ok(Goal { thm, count, claim })
     }
 
-    /// Whether the condition of [`made`](Goal::made) holds.
-    pub fn can_make(_alloc: Global, thm: &Thm, count: u32, claim: &Term) -> Mem<bool>
-        ensures ok { IfOk result (λ b. IsTrue b ↔ IsGoalProp count thm.now.prop claim.now) }
-        ensures memory { IfErr result (λ w. w ≡ Memory) }
+    /// Whether the condition of [`made`](Goal::made) holds. Fails where memory runs out; with `Number` only where an index
+    /// or a depth that is made on the way is 4,294,967,295 or more.
+    pub fn can_make(alloc: Global, thm: &Thm, count: u32, claim: &Term) -> Mem<bool>
+        ensures ok { IfOk result (λ b. IsTrue b ↔ IsGoal count thm.now.prop claim.now) }
+        ensures number { IfErr result (λ w. w ≡ Number → IsPast (made_forms count thm.now.prop)) }
     {
-        Ok(leads_to(thm.prop(), count, claim))
+        leads_to(alloc, thm.prop(), count, claim)
     }
 
     /// How many subgoals are left.
@@ -105,6 +108,7 @@ impl Goal {
     pub fn thm(&self) -> &Thm
         ensures same { result.now ≡ self.now.thm }
         ensures prop { self.now.thm.prop ≡ goal_prop self.now.subgoals self.now.claim }
+        ensures form { AreInForm self.now.subgoals }
     {
         &self.thm
     }
@@ -134,17 +138,47 @@ impl Goal {
     }
 }
 
-/// Whether a proposition leads from `count` premises to a claim.
-fn leads_to(prop: &Term, count: u32, claim: &Term) -> bool
-    ensures { IsTrue result ↔ IsGoalProp count prop.now claim.now }
+/// `|- hhf claim ==> claim`.
+fn form_implies(alloc: Global, claim: &Term) -> Mem<Thm>
+    requires { IsProp claim.now }
+    ensures prop { IfOk result (λ r. r.prop ≡ imp (hhf claim.now) claim.now) }
+    ensures hyps { IfOk result (λ r. r.hyps ≡ Nil) }
+    ensures derivation { IfOk result (λ r. r.derivation ≡ imp_intr (hhf claim.now) (conv claim.now (Assume (hhf claim.now)))) }
+    ensures number { IfErr result (λ w. w ≡ Number → IsPast (made_hhf claim.now)) }
+{
+    hhf_is_a_normal_form();
+    hypotheses_are_told_apart();
+    let form = hhf(alloc, claim)?;
+    let assumed = Thm::assume(alloc, &form)?;
+    let concluded = Thm::conv(alloc, claim, &assumed)?;
+    Thm::imp_intr(alloc, &form, &concluded)
+}
+
+/// Whether a term has each `!!` in front of `==>`.
+fn is_in_form(alloc: Global, t: &Term) -> Mem<bool>
+    ensures ok { IfOk result (λ b. IsTrue b ↔ IsInForm t.now) }
+    ensures number { IfErr result (λ w. w ≡ Number → IsPast (made_hhf t.now)) }
+{
+    let form = hhf(alloc, t)?;
+    Ok(form.is(t))
+}
+
+/// Whether a proposition leads from `count` premises in the form to a claim.
+fn leads_to(alloc: Global, prop: &Term, count: u32, claim: &Term) -> Mem<bool>
+    ensures ok { IfOk result (λ b. IsTrue b ↔ IsGoal count prop.now claim.now) }
+    ensures number { IfErr result (λ w. w ≡ Number → IsPast (made_forms count prop.now)) }
 {
     if count == 0 {
-        return prop.is(claim);
+        return Ok(prop.is(claim));
     }
     if !prop.is_implication() {
-        return false;
+        return Ok(false);
     }
-    leads_to(prop.consequent(), count - 1, claim)
+    let formed = is_in_form(alloc, prop.antecedent())?;
+    if !formed {
+        return Ok(false);
+    }
+    leads_to(alloc, prop.consequent(), count - 1, claim)
 }
 
 /// The premise of a proposition behind `skipped` others, of `count` premises.

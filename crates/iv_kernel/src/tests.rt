@@ -1,5 +1,7 @@
 use crate::*;
-use iv_term::{Derivation, Head, Instance, Mem, Name, Term, Terms, Text, Typ, VarTerms};
+use iv_rules::{Derivation, FixedTypes, Instance, SchematicTypes, VarTerms};
+use iv_sig::Sig;
+use iv_term::{Head, Mem, Name, Term, Terms, Text, Typ};
 use std::alloc::Global;
 use std::process::Abort;
 
@@ -8,30 +10,34 @@ fn got<T>(rt: &impl Abort, made: Mem<T>) -> T {
     made.expect(rt, "memory")
 }
 
-fn name(alloc: Global, letter: char) -> Mem<Name> {
-    let text = Text::from_slice(alloc, &[letter])?;
-    Ok(Name { text, number: 0 })
+fn text(rt: &impl Abort, alloc: Global, letter: char) -> Text {
+    got(rt, Text::from_slice(alloc, &[letter]))
+}
+
+fn name(rt: &impl Abort, alloc: Global, letter: char) -> Name {
+    let text = text(rt, alloc, letter);
+    Name { text, number: 0 }
+}
+
+fn prop(rt: &impl Abort, alloc: Global) -> Typ {
+    got(rt, Typ::prop(alloc))
 }
 
 /// A free variable of type `prop`.
-fn free(alloc: Global, letter: char) -> Mem<Term> {
-    let head = Head::Free(name(alloc, letter)?, Typ::prop(alloc)?);
-    Ok(Term::Spine(head, Terms::Nil))
+fn variable(rt: &impl Abort, alloc: Global, letter: char) -> Term {
+    let head = Head::Free(name(rt, alloc, letter), prop(rt, alloc));
+    Term::Spine(head, Terms::Nil)
 }
 
-/// A schematic variable of type `prop`.
-fn schematic(alloc: Global, letter: char) -> Mem<Term> {
-    let head = Head::Schematic(name(alloc, letter)?, Typ::prop(alloc)?);
-    Ok(Term::Spine(head, Terms::Nil))
+/// A free variable that takes a proposition to one.
+fn operator(rt: &impl Abort, alloc: Global, letter: char) -> Term {
+    let typ = got(rt, Typ::fun(alloc, prop(rt, alloc), prop(rt, alloc)));
+    Term::Spine(Head::Free(name(rt, alloc, letter), typ), Terms::Nil)
 }
 
-/// ?A for A.
-fn made_schematic(alloc: Global) -> Mem<Instance> {
-    let value = schematic(alloc, 'A')?;
-    let name = name(alloc, 'A')?;
-    let frees = VarTerms::cons(alloc, name, Typ::prop(alloc)?, value, VarTerms::Nil)?;
-    let schematics = VarTerms::Nil;
-    Ok(Instance { frees, schematics })
+/// A loose index.
+fn loose() -> Term {
+    Term::Spine(Head::Bound(0), Terms::Nil)
 }
 
 /// `a |- a`.
@@ -40,120 +46,186 @@ fn assumed(rt: &impl Abort, alloc: Global, a: &Term) -> Thm {
     got(rt, Thm::assume(alloc, a))
 }
 
-/// `H - a |- a ==> b` from `H |- b`.
-fn discharged(rt: &impl Abort, alloc: Global, a: &Term, thm: &Thm) -> Thm {
-    assert!(rt; Thm::can_imp_intr(a, thm));
-    got(rt, Thm::imp_intr(alloc, a, thm))
+/// A theorem with a proposition discharged.
+fn discharged(rt: &impl Abort, alloc: Global, a: &Term, t: &Thm) -> Thm {
+    assert!(rt; Thm::can_imp_intr(a, t));
+    got(rt, Thm::imp_intr(alloc, a, t))
 }
 
-/// The conclusion of an implication with its premise.
-fn eliminated(rt: &impl Abort, alloc: Global, major: &Thm, minor: &Thm) -> Thm {
-    assert!(rt; Thm::can_imp_elim(major, minor));
-    got(rt, Thm::imp_elim(alloc, major, minor))
+/// `|- a ==> a`.
+fn implied(rt: &impl Abort, alloc: Global, a: &Term) -> Thm {
+    discharged(rt, alloc, a, &assumed(rt, alloc, a))
 }
 
-/// A theorem under an instance.
-fn instance_of(rt: &impl Abort, alloc: Global, s: &Instance, thm: &Thm) -> Thm {
-    assert!(rt; Thm::can_inst(s, thm));
-    got(rt, Thm::inst(alloc, s, thm))
+/// `|- t == t`.
+fn same(rt: &impl Abort, alloc: Global, t: &Term) -> Thm {
+    assert!(rt; Thm::can_refl(t));
+    got(rt, Thm::refl(alloc, t))
 }
 
-/// `|- a ==> b ==> a`.
-fn weakening(rt: &impl Abort, alloc: Global, a: &Term, b: &Term) -> Thm {
-    let open = assumed(rt, alloc, a);
-    let inner = discharged(rt, alloc, b, &open);
-    discharged(rt, alloc, a, &inner)
-}
-
-#[test]
-fn a_proposition_is_assumed(rt: HostRuntime) {
-    let alloc = rt.alloc();
-    let a = got(&rt, free(alloc, 'A'));
-    let thm = assumed(&rt, alloc, &a);
-    let copy = got(&rt, thm.copy());
-    assert!(rt; copy.prop().is(&a) && thm.hyps().has(&a));
-    assert!(rt; matches!(thm.derivation(), Derivation::Assume(_)));
+/// A theorem with a variable quantified.
+fn quantified(rt: &impl Abort, alloc: Global, letter: char, t: &Thm) -> Thm {
+    let x = name(rt, alloc, letter);
+    let typ = prop(rt, alloc);
+    assert!(rt; Thm::can_all_intr(&x, &typ, t));
+    got(rt, Thm::all_intr(alloc, &x, &typ, t))
 }
 
 #[test]
-fn hypotheses_are_discharged(rt: HostRuntime) {
+fn axioms(rt: HostRuntime) {
     let alloc = rt.alloc();
-    let a = got(&rt, free(alloc, 'A'));
-    let b = got(&rt, schematic(alloc, 'B'));
-    let thm = weakening(&rt, alloc, &a, &b);
-    assert!(rt; thm.prop().consequent().antecedent().is(&b));
-    assert!(rt; thm.prop().antecedent().is(&a) && thm.hyps().is_nil());
+    let mut sig = got(&rt, Sig::new(alloc));
+    let same = same(&rt, alloc, &operator(&rt, alloc, 'f'));
+    let all = quantified(
+        &rt,
+        alloc,
+        'A',
+        &implied(&rt, alloc, &variable(&rt, alloc, 'A')),
+    );
+    let stated = got(&rt, all.prop().copy());
+    assert!(rt; !Thm::can_axiom(&sig, &text(&rt, alloc, 'a')));
+    assert!(rt; sig.add_axiom(alloc, text(&rt, alloc, 'a'), stated).is_ok());
+    assert!(rt; Thm::can_axiom(&sig, &text(&rt, alloc, 'a')));
+    let thm = got(&rt, Thm::axiom(alloc, &sig, &text(&rt, alloc, 'a')));
+    assert!(rt; thm.prop().is(all.prop()) && !thm.prop().is(same.prop()));
 }
 
 #[test]
-fn refused_propositions(rt: HostRuntime) {
+fn implications(rt: HostRuntime) {
     let alloc = rt.alloc();
-    let a = got(&rt, free(alloc, 'A'));
-    let thm = assumed(&rt, alloc, &a);
-    let bound = Term::Spine(Head::Bound(0), Terms::Nil);
-    assert!(rt; !Thm::can_assume(&bound) && !Thm::can_imp_intr(&bound, &thm));
-    assert!(rt; !Thm::can_imp_elim(&thm, &thm));
-}
-
-#[test]
-fn an_instance_of_a_closed_theorem(rt: HostRuntime) {
-    let alloc = rt.alloc();
-    let a = got(&rt, free(alloc, 'A'));
-    let s = got(&rt, made_schematic(alloc));
+    let a = variable(&rt, alloc, 'A');
     let open = assumed(&rt, alloc, &a);
-    assert!(rt; !Thm::can_inst(&s, &open));
-    let closed = discharged(&rt, alloc, &a, &open);
-    let thm = instance_of(&rt, alloc, &s, &closed);
-    assert!(rt; thm.prop().is_implication() && !thm.prop().antecedent().is(&a));
+    let closed = implied(&rt, alloc, &a);
+    assert!(rt; !Thm::can_assume(&loose()) && !Thm::can_imp_intr(&loose(), &open));
+    assert!(rt; !Thm::can_imp_elim(&open, &closed));
+    assert!(rt; Thm::can_imp_elim(&closed, &open));
+    let thm = got(&rt, Thm::imp_elim(alloc, &closed, &open));
+    assert!(rt; thm.prop().is(&a) && thm.hyps().has(&a) && closed.hyps().is_nil());
+    assert!(rt; matches!(open.derivation(), Derivation::Assume(_)));
+}
+
+#[test]
+fn quantifiers(rt: HostRuntime) {
+    let alloc = rt.alloc();
+    let a = variable(&rt, alloc, 'A');
+    let open = assumed(&rt, alloc, &a);
+    assert!(rt; !Thm::can_all_intr(&name(&rt, alloc, 'A'), &prop(&rt, alloc), &open));
+    let all = quantified(&rt, alloc, 'A', &implied(&rt, alloc, &a));
+    let b = variable(&rt, alloc, 'B');
+    assert!(rt; Thm::can_all_elim(&b, &all) && !Thm::can_all_elim(&loose(), &all));
+    let one = got(&rt, Thm::all_elim(alloc, &b, &all));
+    assert!(rt; one.prop().is(implied(&rt, alloc, &b).prop()));
+}
+
+#[test]
+fn equations(rt: HostRuntime) {
+    let alloc = rt.alloc();
+    let a = variable(&rt, alloc, 'A');
+    let open = assumed(&rt, alloc, &a);
+    let closed = implied(&rt, alloc, &a);
+    assert!(rt; !Thm::can_refl(&loose()) && !Thm::can_eq_intr(&open, &closed));
+    assert!(rt; Thm::can_eq_intr(&closed, &closed));
+    let both = got(&rt, Thm::eq_intr(alloc, &closed, &closed));
+    assert!(rt; Thm::can_sym(&both) && !Thm::can_sym(&open));
+    assert!(rt; Thm::can_eq_elim(&both, &open) && !Thm::can_eq_elim(&open, &open));
+    let other = same(&rt, alloc, &variable(&rt, alloc, 'B'));
+    assert!(rt; Thm::can_trans(&both, &both) && !Thm::can_trans(&both, &other));
+}
+
+#[test]
+fn congruences(rt: HostRuntime) {
+    let alloc = rt.alloc();
+    let a = same(&rt, alloc, &variable(&rt, alloc, 'A'));
+    let f = same(&rt, alloc, &operator(&rt, alloc, 'f'));
+    assert!(rt; Thm::can_comb(&f, &a) && !Thm::can_comb(&a, &f));
+    let x = name(&rt, alloc, 'A');
+    let typ = prop(&rt, alloc);
+    let open = assumed(&rt, alloc, a.prop());
+    assert!(rt; Thm::can_abs(&x, &typ, &a) && !Thm::can_abs(&x, &typ, &open));
+    let abs = got(&rt, Thm::abs(alloc, &x, &typ, &a));
+    assert!(rt; Thm::can_comb(&abs, &a));
+    let thm = got(&rt, Thm::comb(alloc, &abs, &a));
+    assert!(rt; thm.prop().is(a.prop()));
+}
+
+/// `B ==> (!!A. A ==> A)` and `!!A. B ==> A ==> A` have one form; `B ==> A ==> A` has another.
+#[test]
+fn forms(rt: HostRuntime) {
+    let alloc = rt.alloc();
+    let b = variable(&rt, alloc, 'B');
+    let closed = implied(&rt, alloc, &variable(&rt, alloc, 'A'));
+    let late = discharged(&rt, alloc, &b, &quantified(&rt, alloc, 'A', &closed));
+    let open = discharged(&rt, alloc, &b, &closed);
+    let early = quantified(&rt, alloc, 'A', &open);
+    assert!(rt; got(&rt, Thm::can_conv(alloc, early.prop(), &late)));
+    assert!(rt; !got(&rt, Thm::can_conv(alloc, open.prop(), &late)));
+}
+
+/// `B` for `A`.
+fn b_for_a(rt: &impl Abort, alloc: Global) -> Instance {
+    let mut frees = VarTerms::new(alloc);
+    got(
+        rt,
+        frees.push(
+            name(rt, alloc, 'A'),
+            prop(rt, alloc),
+            variable(rt, alloc, 'B'),
+        ),
+    );
+    Instance {
+        fixed: FixedTypes::new(alloc),
+        types: SchematicTypes::new(alloc),
+        frees,
+        schematics: VarTerms::new(alloc),
+    }
+}
+
+#[test]
+fn instances(rt: HostRuntime) {
+    let alloc = rt.alloc();
+    let a = variable(&rt, alloc, 'A');
+    let s = b_for_a(&rt, alloc);
+    let closed = implied(&rt, alloc, &a);
+    assert!(rt; Thm::can_inst(&s, &closed) && !Thm::can_inst(&s, &assumed(&rt, alloc, &a)));
+    let thm = got(&rt, Thm::inst(alloc, &s, &closed));
+    assert!(rt;
+        thm.prop()
+            .is(implied(&rt, alloc, &variable(&rt, alloc, 'B')).prop())
+    );
+    assert!(rt; thm.fixed_hyps() && thm.one_typed());
 }
 
 #[test]
 fn a_theorem_is_read_as_a_goal(rt: HostRuntime) {
     let alloc = rt.alloc();
-    let a = got(&rt, free(alloc, 'A'));
-    let thm = weakening(&rt, alloc, &a, &a);
-    assert!(rt; !got(&rt, Goal::can_make(alloc, &thm, 1, &a)));
-    if let Ok(true) = Goal::can_make(alloc, &thm, 2, &a) {
-        let goal = got(&rt, Goal::made(thm, 2, &a));
-        assert_eq!(rt; goal.count(), 2);
-        assert!(rt; goal.subgoal(2).is(&a) && goal.claim().is(&a));
-    }
+    let a = variable(&rt, alloc, 'A');
+    let thm = implied(&rt, alloc, &a);
+    assert!(rt; !got(&rt, Goal::can_make(alloc, &thm, 0, &a)));
+    let is_goal = Goal::can_make(alloc, &thm, 1, &a).expect(&rt, "memory");
+    assert!(rt; is_goal);
+    let goal = got(&rt, Goal::made(thm, 1, &a));
+    assert_eq!(rt; goal.count(), 1);
 }
 
-/// The claim's goal.
-fn goal_of(rt: &impl Abort, alloc: Global, claim: &Term) -> Goal {
-    assert!(rt; Thm::can_assume(claim));
-    got(rt, Goal::init(alloc, claim))
-}
-
-/// The theorem of a goal that is left no subgoal by this theorem.
-fn finished(rt: &impl Abort, alloc: Global, claim: &Term, left: Thm) -> Mem<Thm> {
-    let can = Goal::can_make(alloc, &left, 0, claim)?;
-    assert!(rt; can);
-    let goal = Goal::made(left, 0, claim)?;
-    assert_eq!(rt; goal.count(), 0);
-    Ok(goal.finish())
+/// `a |- b ==> c ==> a` as a goal.
+fn goal_of_two(rt: &impl Abort, alloc: Global, a: &Term, b: &Term, c: &Term) -> Goal {
+    let thm = discharged(rt, alloc, c, &assumed(rt, alloc, a));
+    let thm = discharged(rt, alloc, b, &thm);
+    let is_goal = Goal::can_make(alloc, &thm, 2, a).expect(rt, "memory");
+    assert!(rt; is_goal);
+    got(rt, Goal::made(thm, 2, a))
 }
 
 #[test]
-fn a_goal_is_finished(rt: HostRuntime) {
+fn two_subgoals_are_turned_round(rt: HostRuntime) {
     let alloc = rt.alloc();
-    let a = got(&rt, free(alloc, 'A'));
-    let thm = weakening(&rt, alloc, &a, &a);
-    let goal = goal_of(&rt, alloc, thm.prop());
-    let left = eliminated(&rt, alloc, goal.thm(), &thm);
-    let proved = got(&rt, finished(&rt, alloc, goal.claim(), left));
-    assert!(rt; proved.prop().is(thm.prop()));
-}
-
-#[test]
-fn theorems_stand_in_order(rt: HostRuntime) {
-    let alloc = rt.alloc();
-    let mut all = Theorems::new(alloc);
-    let a = got(&rt, free(alloc, 'A'));
-    let thm = assumed(&rt, alloc, &a);
-    got(&rt, all.push(NamedThm { name: None, thm }));
-    got(&rt, all.append(Theorems::new(alloc)));
-    assert_eq!(rt; all.len(), 1);
-    assert!(rt; all.as_slice()[0].thm.prop().is(&a));
+    let a = variable(&rt, alloc, 'A');
+    let b = variable(&rt, alloc, 'B');
+    let c = variable(&rt, alloc, 'C');
+    let goal = goal_of_two(&rt, alloc, &a, &b, &c);
+    assert_eq!(rt; goal.count(), 2);
+    let turned = got(&rt, goal.rotate(alloc, 1, 2));
+    assert_eq!(rt; turned.count(), 2);
+    assert!(rt; turned.subgoal(1).is(&c) && turned.subgoal(2).is(&b));
+    assert!(rt; turned.claim().is(&a) && turned.thm().hyps().has(&a));
 }

@@ -1,15 +1,32 @@
-ghost use Rattle.std.specs.Prelude.{◌≡◌, IfOk, IfErr, IsTrue, ◌↔◌};
-ghost use Rattle.iv_term.specs.Term.{tm_cons, imp, consequent, IsProposition, ArePropositions};
+//! Theorems, and the fifteen rules that make them.
+ghost use Rattle.std.specs.Prelude.{◌≡◌, true, ◌++◌, IfOk, IfErr, Some, is_some};
+ghost use Rattle.iv_term.specs.Typ.{prop, fun};
+ghost use Rattle.iv_term.specs.Term.{imp, antecedent, consequent};
 ghost use Rattle.iv_term.specs.Hyps.{union, without, IsDistinctTerms};
-ghost use Rattle.iv_term.specs.Instance.{put_term, put_hyps};
-ghost use Rattle.iv_term.specs.Derivation.{imp_intr, imp_elim, inst};
-ghost use Rattle.iv_term.specs.declared.want.Want.TheVariants.{Memory};
+ghost use Rattle.iv_term.specs.declared.want.Want.TheVariants.{Memory, Number};
+ghost use Rattle.iv_term.specs.declared.typ.Typ.TheBlock.{Nil as no_types};
 ghost use Rattle.iv_term.specs.declared.term.Term.TheBlock.{Nil};
-ghost use Rattle.iv_term.specs.declared.derivation.Derivation.TheBlock.{Assume};
-ghost use Rattle.iv_kernel.specs.Proved.{Kept, CanImpElim, CanInst};
+ghost use Rattle.iv_hsub.specs.Typing.{cod, type_of};
+ghost use Rattle.iv_hsub.specs.Abstract.{abstract_over};
+ghost use Rattle.iv_hsub.specs.Hhf.{one};
+ghost use Rattle.iv_hsub.specs.Made.{IsPast, made_raise, made_happ};
+ghost use Rattle.iv_rules.specs.declared.derivation.Derivation.TheBlock.{Axiom, Assume, Refl};
+ghost use Rattle.iv_rules.specs.Derivation.{imp_intr, imp_elim, all_intr, all_elim, eq_sym, eq_trans, comb, abs, eq_intr, eq_elim, conv, inst};
+ghost use Rattle.iv_rules.specs.Equality.{eq, lhs, rhs, side_type, IsEquation, all, predicate, app};
+ghost use Rattle.iv_rules.specs.Sequent.{IsClosed, IsProp, AreProps};
+ghost use Rattle.iv_rules.specs.Conditions.{CanImpElim, CanAllIntr, CanAllElim, CanTrans, CanComb, CanAbs, CanEqIntr, CanEqElim, CanConv, CanInst};
+ghost use Rattle.iv_rules.specs.Rules.{Shows, Kept};
+ghost use Rattle.iv_rules.specs.Instance.{instanced, instanced_hyps};
+ghost use Rattle.iv_inst.specs.Made.{made_instanced, made_instanced_all};
+ghost use Rattle.iv_sig.specs.Table.{look};
 
+use crate::derivations;
+use iv_equations::conclusions;
+use iv_inst::{are_keys_apart, instanced, instanced_hyps};
+use iv_rules::{Derivation, Instance, steps};
 use iv_shared::Shared;
-use iv_term::{Derivation, Instance, Mem, Term, Terms};
+use iv_sig::Sig;
+use iv_term::{Mem, Name, Term, Terms, Text, Typ};
 use std::alloc::Global;
 use std::marker::Model;
 
@@ -25,35 +42,35 @@ impl Model for Thm {
     ghost use Rattle.std.specs.Coded.{codes};
     ghost use Rattle.iv_term.specs.contracts.term.Term as a_term;
     ghost use Rattle.iv_term.specs.contracts.term.Terms as some_terms;
-    ghost use Rattle.iv_term.specs.contracts.derivation.Derivation as a_tree;
-    ghost use Rattle.iv_kernel.specs.Proved.{Proved};
+    ghost use Rattle.iv_rules.specs.contracts.derivation.Derivation as a_tree;
+    ghost use Rattle.iv_rules.specs.Rules.{Proved, Shows};
 
     ghost Value = { Proved };
 
     ghost coded = { Prim.hlevel (codes, a_term.the_row.coded, some_terms.the_row.coded, a_tree.the_row.coded) };
 
-    ghost use Rattle.iv_term.specs.Derivation.{Concludes};
-
     ghost view = { λ t. record { hyps = t.hyps; prop = t.prop; derivation = t.derivation } };
 
-    ghost invariant = { λ t. Concludes t.derivation (record { hyps = t.hyps; prop = t.prop }) };
+    ghost invariant = { λ t. Shows t.derivation t.hyps t.prop };
 }
 
 impl Thm {
     /// The hypotheses.
     pub fn hyps(&self) -> &Terms
         ensures same { result.now ≡ self.now.hyps }
-        ensures propositions { ArePropositions self.now.hyps }
+        ensures props { AreProps self.now.hyps }
         ensures distinct { IsDistinctTerms self.now.hyps }
     {
+        iv_rules::laws::conclusions_are_sequents();
         &self.hyps
     }
 
     /// The proposition.
     pub fn prop(&self) -> &Term
         ensures same { result.now ≡ self.now.prop }
-        ensures proposition { IsProposition self.now.prop }
+        ensures prop { IsProp self.now.prop }
     {
+        iv_rules::laws::conclusions_are_sequents();
         &self.prop
     }
 
@@ -64,9 +81,7 @@ impl Thm {
     {
         self.derivation.get()
     }
-}
 
-impl Thm {
     /// An equal theorem, which shares its parts. Takes no memory; fails where a count of owners is full.
     pub fn copy(&self) -> Mem<Thm>
         ensures ok { IfOk result (λ t. t ≡ self.now) }
@@ -82,6 +97,51 @@ impl Thm {
         })
     }
 
+    /// The theorem of a derivation's sequent. Each rule ends here, with a derivation that is its own.
+    fn by(alloc: Global, rule: Derivation, hyps: Terms, prop: Term) -> Mem<Thm>
+        requires { Shows rule hyps prop }
+        ensures hyps { IfOk result (λ t. t.hyps ≡ hyps) }
+        ensures prop { IfOk result (λ t. t.prop ≡ prop) }
+        ensures derivation { IfOk result (λ t. t.derivation ≡ rule) }
+        ensures kept { IfOk result (λ t. Kept t) }
+        ensures memory { IfErr result (λ w. w ≡ Memory) }
+    {
+        let derivation = Shared::new(alloc, rule)?;
+        Ok(Thm {
+            hyps,
+            prop,
+            derivation,
+        })
+    }
+}
+
+impl Thm {
+    /// ```text
+    ///
+    /// ------
+    ///  |- A
+    /// ```
+    ///
+    /// for an axiom A that is declared by this name. Fails where memory runs out.
+    pub fn axiom(alloc: Global, sig: &Sig, name: &Text) -> Mem<Thm>
+        requires { is_some (look sig.now.axioms name.now) ≡ true }
+        ensures hyps { IfOk result (λ r. r.hyps ≡ Nil) }
+        ensures prop { IfOk result (λ r. look sig.now.axioms name.now ≡ Some r.prop) }
+        ensures derivation { IfOk result (λ r. r.derivation ≡ Axiom name.now r.prop) }
+        ensures kept { IfOk result (λ r. Kept r) }
+        ensures memory { IfErr result (λ w. w ≡ Memory) }
+    {
+        steps::propositions_are_shown();
+        match sig.axioms().get(name) {
+            None => unreachable!(),
+            Some(axiom) => {
+                let prop = axiom.copy()?;
+                let rule = derivations::axiom(name, axiom)?;
+                Thm::by(alloc, rule, Terms::Nil, prop)
+            }
+        }
+    }
+
     /// ```text
     ///
     /// --------
@@ -90,22 +150,18 @@ impl Thm {
     ///
     /// for a proposition A. Fails where memory runs out.
     pub fn assume(alloc: Global, prop: &Term) -> Mem<Thm>
-        requires { IsProposition prop.now }
-        ensures hyps { IfOk result (λ t. t.hyps ≡ tm_cons prop.now Nil) }
-        ensures prop { IfOk result (λ t. t.prop ≡ prop.now) }
-        ensures derivation { IfOk result (λ t. t.derivation ≡ Assume prop.now) }
-        ensures kept { IfOk result (λ t. Kept t) }
+        requires { IsProp prop.now }
+        ensures hyps { IfOk result (λ r. r.hyps ≡ one prop.now) }
+        ensures prop { IfOk result (λ r. r.prop ≡ prop.now) }
+        ensures derivation { IfOk result (λ r. r.derivation ≡ Assume prop.now) }
+        ensures kept { IfOk result (λ r. Kept r) }
         ensures memory { IfErr result (λ w. w ≡ Memory) }
     {
+        steps::propositions_are_shown();
         let hyps = Terms::only(alloc, prop)?;
-        let rule = Derivation::Assume(prop.copy()?);
-        let derivation = Shared::new(alloc, rule)?;
-        let prop = prop.copy()?;
-        Ok(Thm {
-            hyps,
-            prop,
-            derivation,
-        })
+        let concluded = prop.copy()?;
+        let rule = derivations::assume(prop)?;
+        Thm::by(alloc, rule, hyps, concluded)
     }
 
     /// ```text
@@ -116,22 +172,18 @@ impl Thm {
     ///
     /// for a proposition A, which is taken out of the hypotheses. Fails where memory runs out.
     pub fn imp_intr(alloc: Global, prop: &Term, t: &Thm) -> Mem<Thm>
-        requires { IsProposition prop.now }
+        requires { IsProp prop.now }
         ensures hyps { IfOk result (λ r. r.hyps ≡ without prop.now t.now.hyps) }
         ensures prop { IfOk result (λ r. r.prop ≡ imp prop.now t.now.prop) }
         ensures derivation { IfOk result (λ r. r.derivation ≡ imp_intr prop.now t.now.derivation) }
         ensures kept { IfOk result (λ r. Kept r) }
         ensures memory { IfErr result (λ w. w ≡ Memory) }
     {
+        steps::propositions_are_shown();
         let hyps = t.hyps.without(alloc, prop)?;
-        let rule = Derivation::ImpIntr(prop.copy()?, t.derivation.share()?);
-        let derivation = Shared::new(alloc, rule)?;
-        let prop = Term::imp(alloc, prop, &t.prop)?;
-        Ok(Thm {
-            hyps,
-            prop,
-            derivation,
-        })
+        let concluded = Term::imp(alloc, prop, &t.prop)?;
+        let rule = derivations::imp_intr(prop, &t.derivation)?;
+        Thm::by(alloc, rule, hyps, concluded)
     }
 
     /// ```text
@@ -142,76 +194,270 @@ impl Thm {
     ///
     /// Fails where memory runs out.
     pub fn imp_elim(alloc: Global, major: &Thm, minor: &Thm) -> Mem<Thm>
-        requires { CanImpElim major.now minor.now }
+        requires { CanImpElim major.now.prop minor.now.prop }
         ensures hyps { IfOk result (λ r. r.hyps ≡ union major.now.hyps minor.now.hyps) }
         ensures prop { IfOk result (λ r. r.prop ≡ consequent major.now.prop) }
         ensures derivation { IfOk result (λ r. r.derivation ≡ imp_elim major.now.derivation minor.now.derivation) }
         ensures kept { IfOk result (λ r. Kept r) }
         ensures memory { IfErr result (λ w. w ≡ Memory) }
     {
+        steps::propositions_are_shown();
         let hyps = major.hyps.union(alloc, &minor.hyps)?;
-        let rule = Derivation::ImpElim(major.derivation.share()?, minor.derivation.share()?);
-        let derivation = Shared::new(alloc, rule)?;
         let prop = major.prop.consequent().copy()?;
-        Ok(Thm {
-            hyps,
-            prop,
-            derivation,
-        })
+        let rule = derivations::imp_elim(&major.derivation, &minor.derivation)?;
+        Thm::by(alloc, rule, hyps, prop)
     }
 
     /// ```text
-    ///     H |- A
-    /// --------------
-    /// H(s) |- A(s)
+    ///   H |- B
+    /// -----------
+    /// H |- !!x. B
     /// ```
     ///
-    /// for values of type `prop` put for variables of type `prop`, all at once, where no free variable that
-    /// is replaced stands in H. Hypotheses that become equal are kept once. Fails where memory runs out.
-    pub fn inst(alloc: Global, s: &Instance, t: &Thm) -> Mem<Thm>
-        requires { CanInst s.now t.now }
-        ensures hyps { IfOk result (λ r. r.hyps ≡ put_hyps s.now t.now.hyps) }
-        ensures prop { IfOk result (λ r. r.prop ≡ put_term s.now t.now.prop) }
-        ensures derivation { IfOk result (λ r. r.derivation ≡ inst s.now t.now.derivation) }
+    /// for a variable x of this name and type that isn't free in H. Fails where memory runs out; with `Number` only where
+    /// an index or a depth that is made on the way is 4,294,967,295 or more.
+    pub fn all_intr(alloc: Global, name: &Name, typ: &Typ, t: &Thm) -> Mem<Thm>
+        requires { CanAllIntr name.now typ.now t.now.hyps }
+        ensures hyps { IfOk result (λ r. r.hyps ≡ t.now.hyps) }
+        ensures prop { IfOk result (λ r. r.prop ≡ all typ.now (abstract_over name.now typ.now t.now.prop)) }
+        ensures derivation { IfOk result (λ r. r.derivation ≡ all_intr name.now typ.now t.now.derivation) }
+        ensures kept { IfOk result (λ r. Kept r) }
+        ensures number { IfErr result (λ w. w ≡ Number → IsPast (made_raise 1 0 t.now.prop)) }
+    {
+        steps::quantified_are_shown();
+        let hyps = t.hyps.copy()?;
+        let prop = conclusions::quantified(alloc, name, typ, &t.prop)?;
+        let rule = derivations::all_intr(name, typ, &t.derivation)?;
+        Thm::by(alloc, rule, hyps, prop)
+    }
+
+    /// ```text
+    /// H |- !!x. B
+    /// -----------
+    ///  H |- B(v)
+    /// ```
+    ///
+    /// for a value v of x's type, without loose indices. Fails where memory runs out; with `Number` only where an index or
+    /// a depth that is made on the way is 4,294,967,295 or more.
+    pub fn all_elim(alloc: Global, value: &Term, t: &Thm) -> Mem<Thm>
+        requires { CanAllElim value.now t.now.prop }
+        ensures hyps { IfOk result (λ r. r.hyps ≡ t.now.hyps) }
+        ensures prop { IfOk result (λ r. r.prop ≡ app (fun (type_of no_types value.now) prop) (predicate t.now.prop) value.now) }
+        ensures derivation { IfOk result (λ r. r.derivation ≡ all_elim value.now t.now.derivation) }
+        ensures kept { IfOk result (λ r. Kept r) }
+        ensures number { IfErr result (λ w. w ≡ Number
+            → IsPast (made_happ (fun (type_of no_types value.now) prop) (predicate t.now.prop) (one value.now))) }
+    {
+        steps::quantified_are_shown();
+        let hyps = t.hyps.copy()?;
+        let prop = conclusions::at_value(alloc, value, &t.prop)?;
+        let rule = derivations::all_elim(value, &t.derivation)?;
+        Thm::by(alloc, rule, hyps, prop)
+    }
+
+    /// ```text
+    ///
+    /// ----------
+    ///  |- v == v
+    /// ```
+    ///
+    /// for a term v without loose indices. Fails where memory runs out.
+    pub fn refl(alloc: Global, value: &Term) -> Mem<Thm>
+        requires { IsClosed value.now }
+        ensures hyps { IfOk result (λ r. r.hyps ≡ Nil) }
+        ensures prop { IfOk result (λ r. r.prop ≡ eq (type_of no_types value.now) value.now value.now) }
+        ensures derivation { IfOk result (λ r. r.derivation ≡ Refl value.now) }
         ensures kept { IfOk result (λ r. Kept r) }
         ensures memory { IfErr result (λ w. w ≡ Memory) }
     {
-        let hyps = t.hyps.put_hyps(alloc, s)?;
-        let rule = Derivation::Inst(s.copy()?, t.derivation.share()?);
-        let derivation = Shared::new(alloc, rule)?;
-        let prop = t.prop.put(alloc, s)?;
-        Ok(Thm {
-            hyps,
-            prop,
-            derivation,
-        })
+        steps::equations_are_shown();
+        let prop = conclusions::reflexive(alloc, value)?;
+        let rule = derivations::refl(value)?;
+        Thm::by(alloc, rule, Terms::Nil, prop)
     }
 
-    /// Whether the condition of [`assume`](Thm::assume) holds. Takes no memory.
-    pub fn can_assume(prop: &Term) -> bool
-        ensures { IsTrue result ↔ IsProposition prop.now }
+    /// ```text
+    /// H |- s == t
+    /// -----------
+    /// H |- t == s
+    /// ```
+    ///
+    /// Fails where memory runs out.
+    pub fn sym(alloc: Global, t: &Thm) -> Mem<Thm>
+        requires { IsEquation t.now.prop }
+        ensures hyps { IfOk result (λ r. r.hyps ≡ t.now.hyps) }
+        ensures prop { IfOk result (λ r. r.prop ≡ eq (side_type t.now.prop) (rhs t.now.prop) (lhs t.now.prop)) }
+        ensures derivation { IfOk result (λ r. r.derivation ≡ eq_sym t.now.derivation) }
+        ensures kept { IfOk result (λ r. Kept r) }
+        ensures memory { IfErr result (λ w. w ≡ Memory) }
     {
-        prop.is_proposition()
+        steps::equations_are_shown();
+        let hyps = t.hyps.copy()?;
+        let prop = conclusions::turned(alloc, &t.prop)?;
+        let rule = derivations::sym(&t.derivation)?;
+        Thm::by(alloc, rule, hyps, prop)
     }
 
-    /// Whether the condition of [`imp_intr`](Thm::imp_intr) holds. Takes no memory.
-    pub fn can_imp_intr(prop: &Term, _t: &Thm) -> bool
-        ensures { IsTrue result ↔ IsProposition prop.now }
+    /// ```text
+    /// H |- s == t    K |- t == u
+    /// --------------------------
+    ///     H and K |- s == u
+    /// ```
+    ///
+    /// Fails where memory runs out.
+    pub fn trans(alloc: Global, a: &Thm, b: &Thm) -> Mem<Thm>
+        requires { CanTrans a.now.prop b.now.prop }
+        ensures hyps { IfOk result (λ r. r.hyps ≡ union a.now.hyps b.now.hyps) }
+        ensures prop { IfOk result (λ r. r.prop ≡ eq (side_type a.now.prop) (lhs a.now.prop) (rhs b.now.prop)) }
+        ensures derivation { IfOk result (λ r. r.derivation ≡ eq_trans a.now.derivation b.now.derivation) }
+        ensures kept { IfOk result (λ r. Kept r) }
+        ensures memory { IfErr result (λ w. w ≡ Memory) }
     {
-        prop.is_proposition()
+        steps::equations_are_shown();
+        let hyps = a.hyps.union(alloc, &b.hyps)?;
+        let prop = conclusions::joined(alloc, &a.prop, &b.prop)?;
+        let rule = derivations::trans(&a.derivation, &b.derivation)?;
+        Thm::by(alloc, rule, hyps, prop)
     }
 
-    /// Whether the condition of [`imp_elim`](Thm::imp_elim) holds. Takes no memory.
-    pub fn can_imp_elim(major: &Thm, minor: &Thm) -> bool
-        ensures { IsTrue result ↔ CanImpElim major.now minor.now }
+    /// ```text
+    /// H |- f == g    K |- x == y
+    /// --------------------------
+    ///    H and K |- f x == g y
+    /// ```
+    ///
+    /// where f and g take arguments of x's type. Fails where memory runs out; with `Number` only where an index or a depth
+    /// that is made on the way is 4,294,967,295 or more.
+    pub fn comb(alloc: Global, f: &Thm, x: &Thm) -> Mem<Thm>
+        requires { CanComb f.now.prop x.now.prop }
+        ensures hyps { IfOk result (λ r. r.hyps ≡ union f.now.hyps x.now.hyps) }
+        ensures prop { let c = side_type f.now.prop in
+            IfOk result (λ r. r.prop ≡ eq (cod c) (app c (lhs f.now.prop) (lhs x.now.prop)) (app c (rhs f.now.prop) (rhs x.now.prop))) }
+        ensures derivation { IfOk result (λ r. r.derivation ≡ comb f.now.derivation x.now.derivation) }
+        ensures kept { IfOk result (λ r. Kept r) }
+        ensures number { let c = side_type f.now.prop in IfErr result (λ w. w ≡ Number
+            → IsPast (made_happ c (lhs f.now.prop) (one (lhs x.now.prop)) ++ made_happ c (rhs f.now.prop) (one (rhs x.now.prop)))) }
     {
-        major.prop.is_implication() && major.prop.antecedent().is(&minor.prop)
+        steps::congruences_are_shown();
+        let hyps = f.hyps.union(alloc, &x.hyps)?;
+        let prop = conclusions::applied(alloc, &f.prop, &x.prop)?;
+        let rule = derivations::comb(&f.derivation, &x.derivation)?;
+        Thm::by(alloc, rule, hyps, prop)
     }
 
-    /// Whether the condition of [`inst`](Thm::inst) holds. Takes no memory.
-    pub fn can_inst(s: &Instance, t: &Thm) -> bool
-        ensures { IsTrue result ↔ CanInst s.now t.now }
+    /// ```text
+    ///       H |- s == t
+    /// ------------------------
+    /// H |- (%x. s) == (%x. t)
+    /// ```
+    ///
+    /// for a variable x of this name and type that isn't free in H. Fails where memory runs out; with `Number` only where
+    /// an index or a depth that is made on the way is 4,294,967,295 or more.
+    pub fn abs(alloc: Global, name: &Name, typ: &Typ, t: &Thm) -> Mem<Thm>
+        requires { CanAbs name.now typ.now t.now.hyps t.now.prop }
+        ensures hyps { IfOk result (λ r. r.hyps ≡ t.now.hyps) }
+        ensures prop { IfOk result (λ r. r.prop ≡ eq (fun typ.now (side_type t.now.prop))
+            (abstract_over name.now typ.now (lhs t.now.prop)) (abstract_over name.now typ.now (rhs t.now.prop))) }
+        ensures derivation { IfOk result (λ r. r.derivation ≡ abs name.now typ.now t.now.derivation) }
+        ensures kept { IfOk result (λ r. Kept r) }
+        ensures number { IfErr result (λ w. w ≡ Number
+            → IsPast (made_raise 1 0 (lhs t.now.prop) ++ made_raise 1 0 (rhs t.now.prop))) }
     {
-        s.frees.are_entries() && s.schematics.are_entries() && s.frees.are_absent(&t.hyps)
+        steps::congruences_are_shown();
+        let hyps = t.hyps.copy()?;
+        let prop = conclusions::abstracted(alloc, name, typ, &t.prop)?;
+        let rule = derivations::abs(name, typ, &t.derivation)?;
+        Thm::by(alloc, rule, hyps, prop)
+    }
+
+    /// ```text
+    /// H |- A ==> B    K |- B ==> A
+    /// ----------------------------
+    ///      H and K |- A == B
+    /// ```
+    ///
+    /// Fails where memory runs out.
+    pub fn eq_intr(alloc: Global, a: &Thm, b: &Thm) -> Mem<Thm>
+        requires { CanEqIntr a.now.prop b.now.prop }
+        ensures hyps { IfOk result (λ r. r.hyps ≡ union a.now.hyps b.now.hyps) }
+        ensures prop { IfOk result (λ r. r.prop ≡ eq prop (antecedent a.now.prop) (consequent a.now.prop)) }
+        ensures derivation { IfOk result (λ r. r.derivation ≡ eq_intr a.now.derivation b.now.derivation) }
+        ensures kept { IfOk result (λ r. Kept r) }
+        ensures memory { IfErr result (λ w. w ≡ Memory) }
+    {
+        steps::equations_are_shown();
+        let hyps = a.hyps.union(alloc, &b.hyps)?;
+        let prop = conclusions::equivalent(alloc, &a.prop)?;
+        let rule = derivations::eq_intr(&a.derivation, &b.derivation)?;
+        Thm::by(alloc, rule, hyps, prop)
+    }
+
+    /// ```text
+    /// H |- A == B    K |- A
+    /// ---------------------
+    ///     H and K |- B
+    /// ```
+    ///
+    /// Fails where memory runs out.
+    pub fn eq_elim(alloc: Global, eq: &Thm, t: &Thm) -> Mem<Thm>
+        requires { CanEqElim eq.now.prop t.now.prop }
+        ensures hyps { IfOk result (λ r. r.hyps ≡ union eq.now.hyps t.now.hyps) }
+        ensures prop { IfOk result (λ r. r.prop ≡ rhs eq.now.prop) }
+        ensures derivation { IfOk result (λ r. r.derivation ≡ eq_elim eq.now.derivation t.now.derivation) }
+        ensures kept { IfOk result (λ r. Kept r) }
+        ensures memory { IfErr result (λ w. w ≡ Memory) }
+    {
+        steps::equations_are_shown();
+        let hyps = eq.hyps.union(alloc, &t.hyps)?;
+        let prop = eq.prop.consequent().copy()?;
+        let rule = derivations::eq_elim(&eq.derivation, &t.derivation)?;
+        Thm::by(alloc, rule, hyps, prop)
+    }
+
+    /// ```text
+    /// H |- A
+    /// ------
+    /// H |- B
+    /// ```
+    ///
+    /// for a proposition B that has one form with A, with each `!!` in front of `==>`. Fails where memory runs out.
+    pub fn conv(alloc: Global, prop: &Term, t: &Thm) -> Mem<Thm>
+        requires { CanConv prop.now t.now.prop }
+        ensures hyps { IfOk result (λ r. r.hyps ≡ t.now.hyps) }
+        ensures prop { IfOk result (λ r. r.prop ≡ prop.now) }
+        ensures derivation { IfOk result (λ r. r.derivation ≡ conv prop.now t.now.derivation) }
+        ensures kept { IfOk result (λ r. Kept r) }
+        ensures memory { IfErr result (λ w. w ≡ Memory) }
+    {
+        steps::propositions_are_shown();
+        let hyps = t.hyps.copy()?;
+        let concluded = prop.copy()?;
+        let rule = derivations::conv(prop, &t.derivation)?;
+        Thm::by(alloc, rule, hyps, concluded)
+    }
+
+    /// ```text
+    ///    H |- A
+    /// ------------
+    /// H(s) |- A(s)
+    /// ```
+    ///
+    /// for types and terms put for variables, all at once, where each term has its variable's type, and no type variable or
+    /// free variable that is replaced stands in H. Hypotheses that become equal are kept once. Fails where memory runs out;
+    /// with `Number` only where an index or a depth that is made on the way is 4,294,967,295 or more.
+    pub fn inst(alloc: Global, s: &Instance, t: &Thm) -> Mem<Thm>
+        requires { CanInst s.now t.now.hyps }
+        ensures hyps { IfOk result (λ r. r.hyps ≡ instanced_hyps s.now t.now.hyps) }
+        ensures prop { IfOk result (λ r. r.prop ≡ instanced s.now t.now.prop) }
+        ensures derivation { IfOk result (λ r. r.derivation ≡ inst s.now t.now.derivation) }
+        ensures kept { IfOk result (λ r. Kept r) }
+        ensures number { IfErr result (λ w. w ≡ Number → IsPast (made_instanced_all s.now t.now.hyps ++ made_instanced s.now t.now.prop)) }
+    {
+        steps::instances_are_shown();
+        are_keys_apart(s);
+        let hyps = instanced_hyps(alloc, s, t.hyps())?;
+        let prop = instanced(alloc, s, t.prop())?;
+        let rule = derivations::inst(alloc, s, &t.derivation)?;
+        Thm::by(alloc, rule, hyps, prop)
     }
 }

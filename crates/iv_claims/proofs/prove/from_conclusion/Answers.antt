@@ -2,14 +2,15 @@ use Rattle.std.proofs.Common.{length, drop, sym, ◌∙◌, ap, arith}
 use Rattle.std.proofs.lemmas.List.{drop_all}
 use Rattle.iv_term.specs.Term.{imp}
 use Rattle.iv_term.specs.Hyps.{without}
-use Rattle.iv_term.specs.Derivation.{axioms_of}
+use Rattle.iv_rules.specs.Rules.{axioms_of}
 use Rattle.iv_claims.specs.Statement.{statement_of, free_var, open_hyps}
 use Rattle.iv_claims.proofs.StatementSteps.{drop-earlier, statement-more}
-use Rattle.iv_claims.proofs.Generalising.{free_var-proposition, open_hyps-none, open_hyps-cons}
+use Rattle.iv_claims.proofs.Forms.{free-prop}
+use Rattle.iv_claims.proofs.Discharged.{open_hyps-none, open_hyps-cons}
 use Rattle.iv_claims.proofs.prove.from_conclusion.Goals as goal
 
 pub assume-requires : goal.assume-requires
-assume-requires c = rw c.in_ok-assumed.ensures.ok (free_var-proposition c.args.conclusion.now)
+assume-requires c = rw c.in_ok-assumed.ensures.ok (free-prop c.args.conclusion.now)
 
 pub premises-init : goal.premises-init
 unfolding statement_of axioms_of
@@ -23,7 +24,7 @@ premises-init c =
     }
 
 pub imp_intr-requires : goal.imp_intr-requires
-imp_intr-requires c = rw c.in_ok-premise.ensures.ok (free_var-proposition c.index-premises-at.result)
+imp_intr-requires c = rw c.in_ok-premise.ensures.ok (free-prop c.index-premises-at.result)
 
 pub premises-preserved : goal.premises-preserved
 unfolding axioms_of

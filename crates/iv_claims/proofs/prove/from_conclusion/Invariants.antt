@@ -1,5 +1,5 @@
 use Rattle.std.proofs.Common.{◌≡◌, ◌≤◌, ◌++◌, ◌∷◌, [], length, drop}
-use Rattle.iv_term.specs.Derivation.{axioms_of}
+use Rattle.iv_rules.specs.Rules.{axioms_of}
 use Rattle.iv_claims.specs.Statement.{free_var, statement_of, open_hyps}
 use Rattle.iv_claims.proofs.prove.from_conclusion.Given as goal
 

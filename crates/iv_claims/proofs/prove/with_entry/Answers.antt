@@ -1,21 +1,14 @@
-use Rattle.std.proofs.Common.{◌≡◌, sym, ◌∙◌, true, false}
-use Rattle.std.specs.Prelude.{is_none}
-use Rattle.iv_term.specs.Typ.{prop}
-use Rattle.iv_term.specs.Instance.{value_at}
-use Rattle.iv_claims.specs.Statement.{name_of, with_entry}
-use Rattle.iv_claims.proofs.Generalising.{lacks-is}
+use Rattle.std.proofs.Common.{sym, ◌∙◌}
+use Rattle.iv_claims.proofs.Entries.{entry-there, entry-new}
 use Rattle.iv_claims.proofs.prove.with_entry.Goals as goal
 
-pub returns-in_ok-value-clause-ok : goal.returns-in_ok-value-clause-ok
-unfolding with_entry
-returns-in_ok-value-clause-ok c =
-    let n : is_none (value_at c.args.entries (name_of c.args.text.now) prop) ≡ true =
-    rw (c.in_ok-name.ensures.ok, c.in_ok-prop.ensures.ok) at (sym (lacks-is _ _ c.lacks.ensures) ∙ c.if-lacks.true) in
-    rw n (rw (c.in_ok-name.ensures.ok, c.in_ok-prop.ensures.ok, c.in_ok-value.ensures.ok) at c.cons.ensures.ok)
+pub returns-then-is_some-clause-ok : goal.returns-then-is_some-clause-ok
+returns-then-is_some-clause-ok c =
+    entry-there c.get.result c.args.text.now c.args.entries (rw (c.in_ok-name.ensures.ok, c.in_ok-prop.ensures.ok) at c.get.ensures)
+    (sym c.is_some.ensures ∙ c.if-is_some.true)
 
-pub returns-else-lacks-clause-ok : goal.returns-else-lacks-clause-ok
-unfolding with_entry
-returns-else-lacks-clause-ok c =
-    let n : is_none (value_at c.args.entries (name_of c.args.text.now) prop) ≡ false =
-    rw (c.in_ok-name.ensures.ok, c.in_ok-prop.ensures.ok) at (sym (lacks-is _ _ c.lacks.ensures) ∙ c.if-lacks.false) in
-    rw n
+pub returns-clause-ok : goal.returns-clause-ok
+returns-clause-ok c =
+    rw (c.in_ok-name.ensures.ok, c.in_ok-prop.ensures.ok, c.in_ok-value.ensures.ok) at c.in_ok-push.ensures.ok
+    ∙ entry-new c.get.result c.args.text.now c.args.entries (rw (c.in_ok-name.ensures.ok, c.in_ok-prop.ensures.ok) at c.get.ensures)
+    (sym c.is_some.ensures ∙ c.if-is_some.false)

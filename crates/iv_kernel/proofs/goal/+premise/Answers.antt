@@ -1,5 +1,5 @@
 use Rattle.std.proofs.Common.{◌-◌, arith}
-use Rattle.iv_kernel.proofs.Laws.Goals.{premise-first, premise-later}
+use Rattle.iv_kernel.proofs.Goals.{premise-first, premise-later}
 use Rattle.iv_kernel.proofs.goal.+premise.Goals as goal
 
 pub returns-then-skipped-eq0 : goal.returns-then-skipped-eq0

@@ -1,9 +1,9 @@
 use Rattle.std.proofs.Common.{◌≡◌, [], refl, sym, ap, ◌∙◌}
 use Rattle.iv_term.specs.declared.term.Term.TheBlock.{Nil}
-use Rattle.iv_term.specs.Derivation.{axioms_of}
+use Rattle.iv_rules.specs.Rules.{axioms_of}
 use Rattle.iv_claims.specs.Statement.{statement_of, free_var, is_solved}
 use Rattle.iv_claims.proofs.StatementSteps.{solved-any}
-use Rattle.iv_claims.proofs.Generalising.{open_hyps-solved}
+use Rattle.iv_claims.proofs.Discharged.{open_hyps-solved}
 use Rattle.iv_claims.proofs.ClaimSteps.{elim-fits, conclusion-fits, no-premises, union-none, axioms-elim}
 use Rattle.iv_claims.proofs.claim.Claim.prove.Goals as goal
 

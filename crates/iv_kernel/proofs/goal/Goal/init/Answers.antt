@@ -1,17 +1,10 @@
-use Rattle.std.proofs.Common.{◌≡◌, ◌∙◌, ap}
-use Rattle.iv_term.specs.Term.{imp}
-use Rattle.iv_kernel.proofs.Laws.Goals.{one-premise, premises-one, without-only}
+use Rattle.iv_kernel.specs.Goal.{OpenGoal}
+use Rattle.iv_kernel.proofs.Results.{known}
+use Rattle.iv_kernel.proofs.Goals.{one-premise, premises-one}
 use Rattle.iv_kernel.proofs.goal.Goal.init.Goals as goal
 
-pub invariant_of-result : goal.invariant_of-result
-invariant_of-result c =
-    let e : c.in_ok-thm.thm.prop ≡ imp c.args.claim.now c.args.claim.now = c.in_ok-thm.ensures.prop ∙ ap (imp c.args.claim.now) c.in_ok-assumed.ensures.prop in
-    rw c.in_ok-claim.ensures.ok (one-premise _ _ e)
+pub made-requires : goal.made-requires
+made-requires c = one-premise _ _ _ c.in_ok-thm.ensures.prop (c.hhf_is_a_normal_form.ensures.once _ _ c.requires.0)
 
 pub returns-clause-subgoals : goal.returns-clause-subgoals
-returns-clause-subgoals c =
-    let e : c.in_ok-thm.thm.prop ≡ imp c.args.claim.now c.args.claim.now = c.in_ok-thm.ensures.prop ∙ ap (imp c.args.claim.now) c.in_ok-assumed.ensures.prop in
-    premises-one _ _ e
-
-pub returns-clause-hyps : goal.returns-clause-hyps
-returns-clause-hyps c = rw (c.in_ok-thm.ensures.hyps, c.in_ok-assumed.ensures.hyps) (without-only _)
+returns-clause-subgoals c = known {T = OpenGoal} _ (λ g. g.subgoals) _ _ c.made.ensures.subgoals (premises-one _ _ _ c.in_ok-thm.ensures.prop)

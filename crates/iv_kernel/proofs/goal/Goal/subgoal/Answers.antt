@@ -1,5 +1,5 @@
 use Rattle.std.proofs.Common.{◌≡◌, length, sym, ◌∙◌, ap, arith}
-use Rattle.iv_kernel.proofs.Laws.Goals.{length-premises_of}
+use Rattle.iv_kernel.proofs.Goals.{length-premises_of}
 use Rattle.iv_kernel.proofs.goal.Goal.subgoal.Goals as goal
 
 pub premise-requires : goal.premise-requires

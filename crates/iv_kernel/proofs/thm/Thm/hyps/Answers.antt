@@ -1,12 +1,12 @@
 use Rattle.std.proofs.Common.{ap, subst}
-use Rattle.iv_term.specs.Term.{ArePropositions}
 use Rattle.iv_term.specs.Hyps.{IsDistinctTerms}
-use Rattle.iv_kernel.proofs.Laws.Propositions.{concludes-propositions}
-use Rattle.iv_kernel.proofs.Laws.Distinct.{concludes-distinct}
+use Rattle.iv_rules.specs.Sequent.{AreProps}
 use Rattle.iv_kernel.proofs.thm.Thm.hyps.Goals as goal
 
-pub returns-clause-propositions : goal.returns-clause-propositions
-returns-clause-propositions c = subst ArePropositions (ap (λ t. t.hyps) c.self.view_is) (concludes-propositions _ _ c.self.invariant).1
+pub returns-clause-props : goal.returns-clause-props
+returns-clause-props c =
+    let s = c.conclusions_are_sequents.ensures.sequent _ _ c.self.invariant in subst AreProps (ap (λ t. t.hyps) c.self.view_is) s.hyps
 
 pub returns-clause-distinct : goal.returns-clause-distinct
-returns-clause-distinct c = subst IsDistinctTerms (ap (λ t. t.hyps) c.self.view_is) (concludes-distinct _ _ c.self.invariant)
+returns-clause-distinct c =
+    let s = c.conclusions_are_sequents.ensures.sequent _ _ c.self.invariant in subst IsDistinctTerms (ap (λ t. t.hyps) c.self.view_is) s.distinct

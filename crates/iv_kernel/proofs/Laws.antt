@@ -1,4 +1,0 @@
-pub mod Distinct
-pub mod Follows
-pub mod Goals
-pub mod Propositions

@@ -1,0 +1,5 @@
+use Rattle.iv_rules.specs.Derivation.{all_intr_is}
+use Rattle.iv_kernel.proofs.derivations.all_intr.Goals as goal
+
+pub returns-clause-ok : goal.returns-clause-ok
+returns-clause-ok c = rw (c.in_ok-copy.ensures.ok, c.in_ok-copy-2.ensures.ok, c.in_ok-share.ensures) (all_intr_is _ _ _)

@@ -1,0 +1,130 @@
+//! Derivations by one rule more. Each call shares its premises, and fails where memory runs out.
+ghost use Rattle.std.specs.Prelude.{◌≡◌, IfOk, IfErr};
+ghost use Rattle.iv_term.specs.declared.want.Want.TheVariants.{Memory};
+ghost use Rattle.iv_rules.specs.declared.derivation.Derivation.TheBlock.{Axiom, Assume, Refl};
+ghost use Rattle.iv_rules.specs.Derivation.{imp_intr, imp_elim, all_intr, all_elim, eq_sym, eq_trans, comb, abs, eq_intr, eq_elim, conv, inst};
+
+use iv_rules::{Derivation, Instance};
+use iv_shared::Shared;
+use iv_term::{Mem, Name, Term, Text, Typ};
+use std::alloc::Global;
+
+/// An axiom by its name.
+pub(crate) fn axiom(name: &Text, prop: &Term) -> Mem<Derivation>
+    ensures ok { IfOk result (λ r. r ≡ Axiom name.now prop.now) }
+    ensures memory { IfErr result (λ w. w ≡ Memory) }
+{
+    Ok(Derivation::Axiom(name.copy()?, prop.copy()?))
+}
+
+/// An assumption.
+pub(crate) fn assume(prop: &Term) -> Mem<Derivation>
+    ensures ok { IfOk result (λ r. r ≡ Assume prop.now) }
+    ensures memory { IfErr result (λ w. w ≡ Memory) }
+{
+    Ok(Derivation::Assume(prop.copy()?))
+}
+
+/// A term that equals itself.
+pub(crate) fn refl(value: &Term) -> Mem<Derivation>
+    ensures ok { IfOk result (λ r. r ≡ Refl value.now) }
+    ensures memory { IfErr result (λ w. w ≡ Memory) }
+{
+    Ok(Derivation::Refl(value.copy()?))
+}
+
+/// A hypothesis that is discharged.
+pub(crate) fn imp_intr(prop: &Term, d: &Shared<Derivation>) -> Mem<Derivation>
+    ensures ok { IfOk result (λ r. r ≡ imp_intr prop.now d.now) }
+    ensures memory { IfErr result (λ w. w ≡ Memory) }
+{
+    Ok(Derivation::ImpIntr(prop.copy()?, d.share()?))
+}
+
+/// An implication, and its premise.
+pub(crate) fn imp_elim(d: &Shared<Derivation>, e: &Shared<Derivation>) -> Mem<Derivation>
+    ensures ok { IfOk result (λ r. r ≡ imp_elim d.now e.now) }
+    ensures memory { IfErr result (λ w. w ≡ Memory) }
+{
+    Ok(Derivation::ImpElim(d.share()?, e.share()?))
+}
+
+/// A free variable that `!!` binds.
+pub(crate) fn all_intr(name: &Name, typ: &Typ, d: &Shared<Derivation>) -> Mem<Derivation>
+    ensures ok { IfOk result (λ r. r ≡ all_intr name.now typ.now d.now) }
+    ensures memory { IfErr result (λ w. w ≡ Memory) }
+{
+    Ok(Derivation::AllIntr(name.copy()?, typ.copy()?, d.share()?))
+}
+
+/// A term for what `!!` binds.
+pub(crate) fn all_elim(value: &Term, d: &Shared<Derivation>) -> Mem<Derivation>
+    ensures ok { IfOk result (λ r. r ≡ all_elim value.now d.now) }
+    ensures memory { IfErr result (λ w. w ≡ Memory) }
+{
+    Ok(Derivation::AllElim(value.copy()?, d.share()?))
+}
+
+/// An equation, turned round.
+pub(crate) fn sym(d: &Shared<Derivation>) -> Mem<Derivation>
+    ensures ok { IfOk result (λ r. r ≡ eq_sym d.now) }
+    ensures memory { IfErr result (λ w. w ≡ Memory) }
+{
+    Ok(Derivation::Sym(d.share()?))
+}
+
+/// Two equations, one after the other.
+pub(crate) fn trans(d: &Shared<Derivation>, e: &Shared<Derivation>) -> Mem<Derivation>
+    ensures ok { IfOk result (λ r. r ≡ eq_trans d.now e.now) }
+    ensures memory { IfErr result (λ w. w ≡ Memory) }
+{
+    Ok(Derivation::Trans(d.share()?, e.share()?))
+}
+
+/// An equation of functions, and one of their arguments.
+pub(crate) fn comb(d: &Shared<Derivation>, e: &Shared<Derivation>) -> Mem<Derivation>
+    ensures ok { IfOk result (λ r. r ≡ comb d.now e.now) }
+    ensures memory { IfErr result (λ w. w ≡ Memory) }
+{
+    Ok(Derivation::Comb(d.share()?, e.share()?))
+}
+
+/// A free variable that both sides of an equation abstract over.
+pub(crate) fn abs(name: &Name, typ: &Typ, d: &Shared<Derivation>) -> Mem<Derivation>
+    ensures ok { IfOk result (λ r. r ≡ abs name.now typ.now d.now) }
+    ensures memory { IfErr result (λ w. w ≡ Memory) }
+{
+    Ok(Derivation::Abs(name.copy()?, typ.copy()?, d.share()?))
+}
+
+/// Two implications, one the other way round.
+pub(crate) fn eq_intr(d: &Shared<Derivation>, e: &Shared<Derivation>) -> Mem<Derivation>
+    ensures ok { IfOk result (λ r. r ≡ eq_intr d.now e.now) }
+    ensures memory { IfErr result (λ w. w ≡ Memory) }
+{
+    Ok(Derivation::EqIntr(d.share()?, e.share()?))
+}
+
+/// An equation of propositions, and its left side.
+pub(crate) fn eq_elim(d: &Shared<Derivation>, e: &Shared<Derivation>) -> Mem<Derivation>
+    ensures ok { IfOk result (λ r. r ≡ eq_elim d.now e.now) }
+    ensures memory { IfErr result (λ w. w ≡ Memory) }
+{
+    Ok(Derivation::EqElim(d.share()?, e.share()?))
+}
+
+/// A proposition that has the same form with each `!!` in front.
+pub(crate) fn conv(prop: &Term, d: &Shared<Derivation>) -> Mem<Derivation>
+    ensures ok { IfOk result (λ r. r ≡ conv prop.now d.now) }
+    ensures memory { IfErr result (λ w. w ≡ Memory) }
+{
+    Ok(Derivation::Conv(prop.copy()?, d.share()?))
+}
+
+/// Types and terms put for variables.
+pub(crate) fn inst(alloc: Global, s: &Instance, d: &Shared<Derivation>) -> Mem<Derivation>
+    ensures ok { IfOk result (λ r. r ≡ inst s.now d.now) }
+    ensures memory { IfErr result (λ w. w ≡ Memory) }
+{
+    Ok(Derivation::Inst(s.copy(alloc)?, d.share()?))
+}
