@@ -10,3 +10,4 @@ pub mod Values
 pub mod Short
 pub mod Code
 pub mod Loops
+pub mod Apart

@@ -1,5 +1,8 @@
 //! Substitutions composed.
 ghost use Rattle.std.specs.Prelude.{◌≡◌, ◌++◌, IfOk, IfErr, OnOk};
+ghost use Rattle.std.specs.List.{IsDistinct};
+ghost use Rattle.std.specs.Map.{keys_of};
+ghost use Rattle.iv_term.specs.Typ.{same_name};
 ghost use Rattle.iv_term.specs.declared.want.Want.TheVariants.{Memory, Number};
 ghost use Rattle.iv_hsub.specs.Made.{IsPast};
 ghost use Rattle.iv_put.specs.Subst.{under, unhidden, composed, CanCompose};
@@ -17,6 +20,8 @@ impl Subst {
         ensures ok { IfOk result (λ s. s ≡ composed self.now next.now) }
         ensures number { IfErr result (λ w. w ≡ Number → IsPast (made_under next.now self.now.1)) }
     {
+        let _entries = self.len();
+        let _next = next.len();
         let types = self.types().compose(alloc, next.types())?;
         let mut both = Subst::new(alloc, types);
         self.add_under(alloc, next, &mut both)?;
@@ -26,20 +31,22 @@ impl Subst {
 
     /// Puts all entries at the end of `both`, each value under `next`.
     fn add_under(&self, alloc: Global, next: &Subst, both: &mut Subst) -> Mem<()>
-        requires { CanCompose self.now next.now }
+        requires fits { CanCompose self.now next.now }
+        requires apart { IsDistinct same_name (keys_of (both.old.1 ++ under next.now self.now.1)) }
         ensures ok { OnOk result (both.new ≡ (both.old.0, both.old.1 ++ under next.now self.now.1)) }
         ensures number { IfErr result (λ w. w ≡ Number → IsPast (made_under next.now self.now.1)) }
     {
         for i in 0..self.len() {
             let (name, value) = self.entry(i);
             let value = next.apply(alloc, value)?;
-            both.add(alloc, name.copy()?, value)?;
+            both.push(alloc, name.copy()?, value)?;
         }
         Ok(())
     }
 
     /// Puts the entries at the end of `both` whose variables have none in `first`.
     fn add_unhidden(&self, alloc: Global, first: &Subst, both: &mut Subst) -> Mem<()>
+        requires { IsDistinct same_name (keys_of (both.old.1 ++ unhidden first.now.1 self.now.1)) }
         ensures ok { OnOk result (both.new ≡ (both.old.0, both.old.1 ++ unhidden first.now.1 self.now.1)) }
         ensures memory { IfErr result (λ w. w ≡ Memory) }
     {
@@ -49,7 +56,7 @@ impl Subst {
                 continue;
             }
             let value = value.copy()?;
-            both.add(alloc, name.copy()?, value)?;
+            both.push(alloc, name.copy()?, value)?;
         }
         Ok(())
     }

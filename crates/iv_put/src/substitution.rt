@@ -1,12 +1,16 @@
 //! The substitution: types and terms for schematic variables.
 ghost use Rattle.std.specs.Prelude.{◌≡◌, [], ◌∷◌, ◌++◌, ◌<◌, false, None, Some, MatchOption, length, IfOk, IfErr, OnOk, OnErr, slice_get};
+ghost use Rattle.std.specs.List.{IsDistinct};
+ghost use Rattle.std.specs.Map.{keys_of};
 ghost use Rattle.std.specs.Option.{option_copied};
+ghost use Rattle.iv_term.specs.Typ.{same_name};
 ghost use Rattle.iv_term.specs.declared.typ.Typ.TheBlock.{Nil};
 ghost use Rattle.iv_term.specs.declared.want.Want.TheVariants.{Memory};
 ghost use Rattle.iv_hsub.specs.Typing.{IsTerm, HasType};
 ghost use Rattle.iv_put.specs.Subst.{value_of, has_value, AreClosed};
 
 use iv_hsub::type_of;
+use iv_map::{Copied, NameMap};
 use iv_subst::TySubst;
 use iv_term::{Mem, Name, Term, Typ, Types};
 use std::alloc::Global;
@@ -15,17 +19,26 @@ use std::marker::Model;
 /// A value for a schematic variable, and its type.
 #[derive(Drop)]
 struct Entry {
-    name: Name,
     value: Term,
     typ: Typ,
 }
 
+impl Copied for Entry {
+    fn copied(&self) -> Mem<Entry> {
+        let value = self.value.copy()?;
+        Ok(Entry {
+            value,
+            typ: self.typ.copy()?,
+        })
+    }
+}
+
 /// Types and terms that are put for schematic variables. Each value is a term without loose indices, and its type
-/// is kept beside it. Contracts see the map of types and the list of the other entries.
+/// is kept beside it. Contracts see the map of types and the list of the other entries, no two of which have one name.
 #[derive(Drop)]
 pub struct Subst {
     types: TySubst,
-    entries: Vec<Entry>,
+    entries: NameMap<Entry>,
 }
 
 impl Model for Subst {
@@ -40,9 +53,9 @@ impl Model for Subst {
 
     ghost coded = { Prim.hlevel (codes, a_subst.the_row.coded, a_name.the_row.coded, a_term.the_row.coded) };
 
-    ghost view = { λ s. (s.types, terms_in s.entries.items) };
+    ghost view = { λ s. (s.types, terms_in s.entries) };
 
-    ghost invariant = { λ s. AreTyped s.entries.items };
+    ghost invariant = { λ s. AreTyped s.entries };
 }
 
 impl Subst {
@@ -52,7 +65,7 @@ impl Subst {
     {
         Subst {
             types,
-            entries: Vec::new(alloc),
+            entries: NameMap::new(alloc),
         }
     }
 
@@ -67,6 +80,7 @@ impl Subst {
     pub fn len(&self) -> usize
         ensures same { result ≡ length self.now.1 }
         ensures closed { AreClosed self.now.1 }
+        ensures apart { IsDistinct same_name (keys_of self.now.1) }
     {
         self.entries.len()
     }
@@ -77,8 +91,8 @@ impl Subst {
         ensures same { slice_get self.now.1 index ≡ Some (result.0.now, result.1.now) }
         ensures closed { IsTerm Nil result.1.now }
     {
-        let entry = &self.entries[index];
-        (&entry.name, &entry.value)
+        let (name, entry) = self.entries.entry(index);
+        (name, &entry.value)
     }
 
     /// The value of a variable with its type, where it has one.
@@ -86,12 +100,10 @@ impl Subst {
         ensures { MatchOption result (value_of self.now.1 name.now ≡ None)
             (λ r. (value_of self.now.1 name.now ≡ Some r.0.now) × HasType Nil r.1.now r.0.now) }
     {
-        for entry in self.entries.as_slice() {
-            if name.is(&entry.name) {
-                return Some((&entry.value, &entry.typ));
-            }
+        match self.entries.get(name) {
+            None => None,
+            Some(entry) => Some((&entry.value, &entry.typ)),
         }
-        None
     }
 
     /// The value of a variable, where it has one. Takes no memory.
@@ -120,18 +132,8 @@ impl Subst {
         ensures err { OnErr result (self.new ≡ self.old) }
         ensures memory { IfErr result (λ w. w ≡ Memory) }
     {
-        self.add(alloc, name, value)
-    }
-
-    /// Puts an entry at the end.
-    pub(crate) fn add(&mut self, alloc: Global, name: Name, value: Term) -> Mem<()>
-        requires { IsTerm Nil value }
-        ensures ok { OnOk result (self.new ≡ (self.old.0, self.old.1 ++ (name, value) ∷ [])) }
-        ensures err { OnErr result (self.new ≡ self.old) }
-        ensures memory { IfErr result (λ w. w ≡ Memory) }
-    {
         let typ = type_of(alloc, &value, &Types::Nil)?;
-        self.entries.push(Entry { name, value, typ })?;
+        self.entries.push(name, Entry { value, typ })?;
         Ok(())
     }
 
@@ -140,12 +142,10 @@ impl Subst {
         ensures ok { IfOk result (λ s. s ≡ self.now) }
         ensures memory { IfErr result (λ w. w ≡ Memory) }
     {
-        let mut copy = Subst::new(alloc, self.types.copy(alloc)?);
-        for i in 0..self.len() {
-            let (name, value) = self.entry(i);
-            let value = value.copy()?;
-            copy.add(alloc, name.copy()?, value)?;
-        }
-        Ok(copy)
+        let types = self.types.copy(alloc)?;
+        Ok(Subst {
+            types,
+            entries: self.entries.copy(alloc)?,
+        })
     }
 }

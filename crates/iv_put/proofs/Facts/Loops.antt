@@ -10,16 +10,6 @@ use Rattle.iv_put.specs.Subst.{TermMap, Substitution, has_value, applied, CanApp
 use Rattle.iv_put.specs.Made.{made_applied, made_under}
 use Rattle.iv_put.proofs.Facts.Values.{both}
 
-pub pushed : (out more m : TermMap) (i : ℕ) (x : Name) (v : Term) → more ≡ out ++ (x, v) ∷ [] → slice_get m i ≡ Some (x, v)
-    → more ++ drop (i + 1) m ≡ out ++ drop i m
-pushed out more m i x v q h =
-    ap (λ z. z ++ drop (i + 1) m) q ∙ append_assoc out ((x, v) ∷ []) (drop (i + 1) m) ∙ ap (λ z. out ++ z) (sym (drop-at m i (x, v) h))
-
-pub copied-end : (s t : Substitution) (i : ℕ) → t.0 ≡ s.0 → t.1 ++ drop i s.1 ≡ s.1 → length s.1 ≤ i → t ≡ s
-copied-end s t i e h l =
-    let f : t.1 ≡ s.1 = sym (append-nil t.1) ∙ ap (λ z. t.1 ++ z) (sym (drop_all i s.1 l)) ∙ h in
-    λ k. (e k, f k)
-
 -- the entries that a first map doesn't hide
 module _ (first : TermMap) where
   pub unhidden-passed : (out m : TermMap) (i : ℕ) (x : Name) (v : Term) → has_value first x ≡ true → slice_get m i ≡ Some (x, v)

@@ -1,9 +1,10 @@
 -- What look-ups give.
-use Rattle.std.proofs.Common.{◌≡◌, ℕ, zero, suc, Bool, true, false, IsTrue, ◌↔◌, is_some, if◌then◌else◌, Option, Some, None, Bor, List, [], ◌∷◌, ◌++◌, slice_get, ◌+◌, ◌<◌, ◌≤◌, length, map, drop, get_or, refl, sym, ◌∙◌, ap, subst, arith}
+use Rattle.std.proofs.Common.{◌≡◌, ℕ, zero, suc, Bool, true, false, IsTrue, ◌↔◌, is_some, if◌then◌else◌, Option, Some, None, Bor, List, [], ◌∷◌, ◌++◌, slice_get, ◌+◌, ◌≤◌, length, drop, refl, sym, ◌∙◌, ap, subst, arith}
 use Rattle.std.specs.Option.{unwrap_or, option_copied}
 use Rattle.std.specs.Option.{option_map}
-use Rattle.std.proofs.lemmas.List.{drop_more, drop_all}
-use Rattle.std.proofs.lemmas.Option.{slice_get-map, slice_get-get_or}
+use Rattle.std.specs.List.{IsDistinct}
+use Rattle.std.specs.Map.{keys_of}
+use Rattle.std.proofs.lemmas.List.{drop_all}
 use Rattle.iv_term.specs.declared.name.Name.{Name}
 use Rattle.iv_term.specs.declared.typ.Typ.{Typ}
 use Rattle.iv_term.specs.declared.typ.Typ.TheBlock.{Schematic as Variable, Nil as no_types}
@@ -15,6 +16,7 @@ use Rattle.iv_term.specs.declared.term.Term.TheBlock.{Spine}
 use Rattle.iv_hsub.specs.Typing.{HasType}
 use Rattle.iv_hsub.specs.Hsub.{happ}
 use Rattle.iv_hsub.specs.Made.{made_happ}
+use Rattle.iv_map.specs.NameMap.{look}
 use Rattle.iv_subst.specs.TySubst.{TyMap, put_typ, at, seek}
 use Rattle.iv_subst.proofs.Laws.Entries.{at-seek, drop-at}
 use Rattle.iv_subst.proofs.Laws.Put.{put-none}
@@ -33,85 +35,89 @@ at-missing s x o e q = sym (at-seek s x) ∙ ap (λ z. unwrap_or z (Variable x))
 pub at-found : (s : TyMap) (x : Name) (o : Option (Bor Typ)) (b : Bor Typ) → option_copied o ≡ seek s x → o ≡ Some b → at s x ≡ b.now
 at-found s x o b e q = sym (at-seek s x) ∙ ap (λ z. unwrap_or z (Variable x)) (sym e ∙ ap option_copied q)
 
--- the entry at an index, and those behind it
-pub drop-here : (es : List Entry) (i : ℕ) (e : Entry) → i < length es → e ≡ get_or es i e → drop i es ≡ e ∷ drop (i + 1) es
-drop-here es i e l g = drop_more es i e l ∙ ap (λ z. z ∷ drop (i + 1) es) (sym g)
+-- the value of a name among entries
+value-look_by : (e : Name × Entry) (o : Option Term) (p : Option Entry) (b : Bool) → o ≡ option_map (λ z. z.value) p
+    → (if b then Some e.1.value else o) ≡ option_map (λ z. z.value) (if b then Some e.1 else p)
+value-look_by e o p true k = refl
+value-look_by e o p false k = k
 
-pub value-here : (m : TermMap) (es : List Entry) (i : ℕ) (e : Entry) (y : Name) → value_of m y ≡ value_of (terms_in (drop i es)) y → AreTyped (drop i es)
-    → i < length es → e ≡ get_or es i e → same_name y e.name ≡ true → (value_of m y ≡ Some e.value) × HasType no_types e.typ e.value
-unfolding value_of terms_in AreTyped
-value-here m es i e y k t l g q =
-    let h = drop-here es i e l g in
-    let step : value_of (terms_in (e ∷ drop (i + 1) es)) y ≡ Some e.value = rw q refl in
-    let typed : AreTyped (e ∷ drop (i + 1) es) = subst AreTyped h t in
-    (k ∙ ap (λ z. value_of (terms_in z) y) h ∙ step, typed.0)
-
-pub value-on : (m : TermMap) (es : List Entry) (i : ℕ) (e : Entry) (y : Name) → value_of m y ≡ value_of (terms_in (drop i es)) y → AreTyped (drop i es)
-    → i < length es → e ≡ get_or es i e → same_name y e.name ≡ false
-    → (value_of m y ≡ value_of (terms_in (drop (i + 1) es)) y) × AreTyped (drop (i + 1) es)
-unfolding value_of terms_in AreTyped
-value-on m es i e y k t l g q =
-    let h = drop-here es i e l g in
-    let step : value_of (terms_in (e ∷ drop (i + 1) es)) y ≡ value_of (terms_in (drop (i + 1) es)) y = rw q refl in
-    let typed : AreTyped (e ∷ drop (i + 1) es) = subst AreTyped h t in
-    (k ∙ ap (λ z. value_of (terms_in z) y) h ∙ step, typed.1)
-
-pub value-end : (m : TermMap) (es : List Entry) (i : ℕ) (y : Name) → value_of m y ≡ value_of (terms_in (drop i es)) y → length es ≤ i → value_of m y ≡ None
+value-look : (es : List (Name × Entry)) (y : Name) → value_of (terms_in es) y ≡ option_map (λ z. z.value) (look es y)
 unfolding value_of terms_in
-value-end m es i y k l = k ∙ ap (λ z. value_of (terms_in z) y) (drop_all i es l)
+value-look [] y = refl
+value-look (e ∷ es) y = value-look_by e (value_of (terms_in es) y) (look es y) (same_name y e.0) (value-look es y)
+
+some-parts : {X : Type 0} (x y : X) → Some x ≡ Some y → x ≡ y
+some-parts x y q = cc
+
+typed-look_by : (d e : Entry) (o : Option Entry) (b : Bool) → HasType no_types d.typ d.value → (o ≡ Some e → HasType no_types e.typ e.value)
+    → (if b then Some d else o) ≡ Some e → HasType no_types e.typ e.value
+typed-look_by d e o true p k q = subst (λ z. HasType no_types z.typ z.value) (some-parts d e q) p
+typed-look_by d e o false p k q = k q
+
+typed-look : (es : List (Name × Entry)) (y : Name) (e : Entry) → AreTyped es → look es y ≡ Some e → HasType no_types e.typ e.value
+unfolding AreTyped
+typed-look [] y e p q = absurd (let bad : None ≡ Some e = q in cc)
+typed-look (d ∷ es) y e p q = typed-look_by d.1 e (look es y) (same_name y d.0) p.0 (typed-look es y e p.1) q
+
+pub value-none : (es : List (Name × Entry)) (y : Name) → look es y ≡ None → value_of (terms_in es) y ≡ None
+value-none es y h = value-look es y ∙ ap (option_map (λ z. z.value)) h
+
+pub value-some : (es : List (Name × Entry)) (y : Name) (e : Entry) → AreTyped es → look es y ≡ Some e
+    → (value_of (terms_in es) y ≡ Some e.value) × HasType no_types e.typ e.value
+value-some es y e p h = (value-look es y ∙ ap (option_map (λ z. z.value)) h, typed-look es y e p h)
+
+none-by : (o : Option Entry) → is_some (option_map (λ z. z.value) o) ≡ false → o ≡ None
+none-by None h = refl
+none-by (Some e) h = absurd (let bad : true ≡ false = h in cc)
 
 -- an entry at the end
-pub typed-push : (es : List Entry) (e : Entry) → AreTyped es → HasType no_types e.typ e.value → AreTyped (es ++ e ∷ [])
+pub typed-push : (es : List (Name × Entry)) (x : Name) (e : Entry) → AreTyped es → HasType no_types e.typ e.value → AreTyped (es ++ (x, e) ∷ [])
 unfolding AreTyped
-typed-push [] e p q = (q, tt)
-typed-push (d ∷ es) e p q = (p.0, typed-push es e p.1 q)
+typed-push [] x e p q = (q, tt)
+typed-push (d ∷ es) x e p q = (p.0, typed-push es x e p.1 q)
 
-terms-push : (es : List Entry) (e : Entry) → terms_in (es ++ e ∷ []) ≡ terms_in es ++ (e.name, e.value) ∷ []
+terms-push : (es : List (Name × Entry)) (x : Name) (e : Entry) → terms_in (es ++ (x, e) ∷ []) ≡ terms_in es ++ (x, e.value) ∷ []
 unfolding terms_in
-terms-push [] e = refl
-terms-push (d ∷ es) e = ap (λ z. (d.name, d.value) ∷ z) (terms-push es e)
+terms-push [] x e = refl
+terms-push (d ∷ es) x e = ap (λ z. (d.0, d.1.value) ∷ z) (terms-push es x e)
 
 abbrev pub both : TyMap → TermMap → Substitution
 both types terms = (types, terms)
 
-pub added : (s : Substitution) (types : TyMap) (es more : List Entry) (e : Entry) → both types (terms_in es) ≡ s → more ≡ es ++ e ∷ []
-    → both types (terms_in more) ≡ both s.0 (s.1 ++ (e.name, e.value) ∷ [])
-added s types es more e k q = ap (both types) (ap terms_in q ∙ terms-push es e) ∙ ap (λ z. both z.0 (z.1 ++ (e.name, e.value) ∷ [])) k
+pub added : (s : Substitution) (types : TyMap) (es more : List (Name × Entry)) (x : Name) (e : Entry) → both types (terms_in es) ≡ s → more ≡ es ++ (x, e) ∷ []
+    → both types (terms_in more) ≡ both s.0 (s.1 ++ (x, e.value) ∷ [])
+added s types es more x e k q = ap (both types) (ap terms_in q ∙ terms-push es x e) ∙ ap (λ z. both z.0 (z.1 ++ (x, e.value) ∷ [])) k
 
 -- what is seen of all entries
-pub length-terms : (es : List Entry) → length (terms_in es) ≡ length es
+pub length-terms : (es : List (Name × Entry)) → length (terms_in es) ≡ length es
 unfolding terms_in
 length-terms [] = refl
 length-terms (e ∷ es) = ap suc (length-terms es)
 
-pub closed-in : (es : List Entry) → AreTyped es → AreClosed (terms_in es)
+keys-terms : (es : List (Name × Entry)) → keys_of (terms_in es) ≡ keys_of es
+unfolding terms_in
+keys-terms [] = refl
+keys-terms (e ∷ es) = ap (λ ks. e.0 ∷ ks) (keys-terms es)
+
+pub apart-in : (es : List (Name × Entry)) → IsDistinct same_name (keys_of es) → IsDistinct same_name (keys_of (terms_in es))
+apart-in es d = rw (keys-terms es) d
+
+pub closed-in : (es : List (Name × Entry)) → AreTyped es → AreClosed (terms_in es)
 unfolding AreTyped terms_in Values
 closed-in [] p = tt
 closed-in (e ∷ es) p = (p.0.0, closed-in es p.1)
 
-entry_of : Entry → Name × Term
-entry_of e = (e.name, e.value)
+pub terms-at : (es : List (Name × Entry)) (i : ℕ) (x : Name) (e : Entry) → slice_get es i ≡ Some (x, e) → slice_get (terms_in es) i ≡ Some (x, e.value)
+unfolding terms_in
+terms-at [] i x e h = absurd (let bad : None ≡ Some (x, e) = h in cc)
+terms-at (d ∷ es) zero x e h = ap (λ z. Some (z.0, z.1.value)) (some-parts d (x, e) h)
+terms-at (d ∷ es) (suc i) x e h = terms-at es i x e h
 
-terms-map : (es : List Entry) → terms_in es ≡ map entry_of es
-unfolding terms_in entry_of
-terms-map [] = refl
-terms-map (e ∷ es) = ap (λ z. (e.name, e.value) ∷ z) (terms-map es)
-
-pub terms-at : (es : List Entry) (i : ℕ) (e : Entry) → slice_get es i ≡ Some e → slice_get (terms_in es) i ≡ Some (e.name, e.value)
-unfolding entry_of
-terms-at es i e h = ap (λ z. slice_get z i) (terms-map es) ∙ slice_get-map entry_of es i ∙ ap (option_map entry_of) h
-
-pub typed-at : (es : List Entry) (i : ℕ) (e : Entry) → AreTyped es → slice_get es i ≡ Some e → HasType no_types e.typ e.value
+pub typed-at : (es : List (Name × Entry)) (i : ℕ) (x : Name) (e : Entry) → AreTyped es → slice_get es i ≡ Some (x, e) → HasType no_types e.typ e.value
 unfolding AreTyped
-typed-at [] i e p h = absurd (let bad : None ≡ Some e = h in cc)
-typed-at (d ∷ es) zero e p h = subst (λ z. HasType no_types z.typ z.value) (some-parts d e h) p.0
-  where
-    some-parts : (x y : Entry) → Some x ≡ Some y → x ≡ y
-    some-parts x y q = cc
-typed-at (d ∷ es) (suc i) e p h = typed-at es i e p.1 h
-
-pub entry-at : (es : List Entry) (i : ℕ) (e : Entry) → i < length es → e ≡ get_or es i e → slice_get es i ≡ Some e
-entry-at es i e l q = slice_get-get_or es i e l ∙ ap Some (sym q)
+typed-at [] i x e p h = absurd (let bad : None ≡ Some (x, e) = h in cc)
+typed-at (d ∷ es) zero x e p h = subst (λ z. HasType no_types z.1.typ z.1.value) (some-parts d (x, e) h) p.0
+typed-at (d ∷ es) (suc i) x e p h = typed-at es i x e p.1 h
 
 -- a map without entries
 pub empty-stays : (s : TyMap) (a : Typ) → length s ≡ 0 → a ≡ put_typ (at s) a
@@ -124,10 +130,13 @@ has-value_by : (e : Name × Term) (o : Option Term) (b v : Bool) → is_some o �
 has-value_by e o b true k = refl
 has-value_by e o b false k = k
 
-has-value : (m : TermMap) (y : Name) → is_some (value_of m y) ≡ has_value m y
+pub has-value : (m : TermMap) (y : Name) → is_some (value_of m y) ≡ has_value m y
 unfolding value_of has_value
 has-value [] y = refl
 has-value (e ∷ m) y = has-value_by e (value_of m y) (has_value m y) (same_name y e.0) (has-value m y)
+
+pub no-entry : (es : List (Name × Entry)) (y : Name) → has_value (terms_in es) y ≡ false → look es y ≡ None
+no-entry es y h = none-by (look es y) (ap is_some (sym (value-look es y)) ∙ has-value (terms_in es) y ∙ h)
 
 copied-some : (o : Option (Bor Term)) → is_some o ≡ is_some (option_copied o)
 copied-some None = refl

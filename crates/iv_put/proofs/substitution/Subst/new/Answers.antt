@@ -4,8 +4,8 @@ use Rattle.iv_put.proofs.substitution.Subst.new.Goals as goal
 
 pub invariant_of-result : goal.invariant_of-result
 unfolding AreTyped
-invariant_of-result c = rw c.new.ensures.items tt
+invariant_of-result c = rw c.new.ensures tt
 
 pub returns : goal.returns
 unfolding terms_in
-returns c = ap (λ es. (c.args.types, terms_in es)) c.new.ensures.items
+returns c = ap (λ es. (c.args.types, terms_in es)) c.new.ensures
