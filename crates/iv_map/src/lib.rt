@@ -5,6 +5,7 @@
 #![tactic(auto)]
 
 pub mod copied;
+mod key;
 pub mod name_map;
 
 pub use copied::Copied;

@@ -6,4 +6,3 @@ pub mod Solved
 pub mod Heads
 pub mod Pairs
 pub mod Going
-pub mod Occurs

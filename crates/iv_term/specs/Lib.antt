@@ -1,4 +1,5 @@
 pub mod Typ
 pub mod Term
 pub mod Hyps
-pub mod Key
+pub mod Instance
+pub mod Derivation
