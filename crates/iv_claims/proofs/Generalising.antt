@@ -16,7 +16,7 @@ use Rattle.iv_put.specs.Inst.{use_value, inst, inst_all}
 use Rattle.iv_put.specs.Made.{made_use, made_inst, made_inst_all}
 use Rattle.iv_rules.specs.declared.instance.Instance.{Instance}
 use Rattle.iv_rules.specs.Entries.{VarMap, same_var}
-use Rattle.iv_rules.specs.Instance.{types_of, values_of, instanced, instanced_hyps, AreKeysApart, IsFreshFor, changes_any}
+use Rattle.iv_rules.specs.Instance.{instanced, instanced_hyps, AreKeysApart, IsFreshFor, changes_any}
 use Rattle.iv_rules.specs.Conditions.{CanInst}
 use Rattle.iv_inst.specs.Made.{made_instanced, made_instanced_all}
 use Rattle.iv_claims.specs.Statement.{name_of, free_var, schematic_var, statement_of, with_entry, with_entries, general}

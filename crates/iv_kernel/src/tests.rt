@@ -1,5 +1,15 @@
+//! A proof is written as a text, a letter for each step, which is read from the first on.
+//!
+//! A letter for a term puts it in front of those before: a variable `A` to `C`, a bound `0`, a schematic `?`, all of type
+//! `prop`, or `t ==> u` for `>`, `t == u` for `~` and `!!x. u` for `!`, where u is taken from the front, and then t.
+//!
+//! A letter for a rule adds a theorem, which is made of the term in front and the last one or two theorems: `x` an axiom,
+//! `h` assume, `r` refl, `i` imp_intr, `v` all_elim, `n` conv, `s` sym, `q` all_intr and `l` abs over `A`, `p` inst of `A`
+//! by `B`, `g` a goal turned round, `m` imp_elim, `e` eq_intr, `w` eq_elim, `t` trans, `k` comb. Its condition is tested
+//! first. The capital says that the rule is refused, and adds nothing. Other signs ask for the last theorem (`holds`).
 use crate::*;
-use iv_rules::{Derivation, FixedTypes, Instance, SchematicTypes, VarTerms};
+use iv_rules::{FixedTypes, Instance, SchematicTypes, VarTerms};
+use iv_shared::Shared;
 use iv_sig::Sig;
 use iv_term::{Head, Mem, Name, Term, Terms, Text, Typ};
 use std::alloc::Global;
@@ -23,142 +33,74 @@ fn prop(rt: &impl Abort, alloc: Global) -> Typ {
     got(rt, Typ::prop(alloc))
 }
 
-/// A free variable of type `prop`.
-fn variable(rt: &impl Abort, alloc: Global, letter: char) -> Term {
-    let head = Head::Free(name(rt, alloc, letter), prop(rt, alloc));
-    Term::Spine(head, Terms::Nil)
+fn head(rt: &impl Abort, alloc: Global, letter: char) -> Head {
+    match letter {
+        '0' => Head::Bound(0),
+        '?' => Head::Schematic(name(rt, alloc, letter), prop(rt, alloc)),
+        _ => Head::Free(name(rt, alloc, letter), prop(rt, alloc)),
+    }
 }
 
-/// A free variable that takes a proposition to one.
-fn operator(rt: &impl Abort, alloc: Global, letter: char) -> Term {
-    let typ = got(rt, Typ::fun(alloc, prop(rt, alloc), prop(rt, alloc)));
-    Term::Spine(Head::Free(name(rt, alloc, letter), typ), Terms::Nil)
+fn atom(rt: &impl Abort, alloc: Global, letter: char) -> Term {
+    Term::Spine(head(rt, alloc, letter), Terms::Nil)
 }
 
-/// A loose index.
-fn loose() -> Term {
-    Term::Spine(Head::Bound(0), Terms::Nil)
+/// The term in front.
+fn front<'a>(rt: &impl Abort, terms: &'a Terms) -> &'a Term {
+    match terms {
+        Terms::Cons(first, _rest) => first.get(),
+        Terms::Nil => panic!(rt; "no term"),
+    }
 }
 
-/// `a |- a`.
-fn assumed(rt: &impl Abort, alloc: Global, a: &Term) -> Thm {
-    assert!(rt; Thm::can_assume(a));
-    got(rt, Thm::assume(alloc, a))
+fn behind<'a>(rt: &impl Abort, terms: &'a Terms) -> &'a Terms {
+    match terms {
+        Terms::Cons(_first, rest) => rest.get(),
+        Terms::Nil => panic!(rt; "no term"),
+    }
 }
 
-/// A theorem with a proposition discharged.
-fn discharged(rt: &impl Abort, alloc: Global, a: &Term, t: &Thm) -> Thm {
-    assert!(rt; Thm::can_imp_intr(a, t));
-    got(rt, Thm::imp_intr(alloc, a, t))
-}
-
-/// `|- a ==> a`.
-fn implied(rt: &impl Abort, alloc: Global, a: &Term) -> Thm {
-    discharged(rt, alloc, a, &assumed(rt, alloc, a))
-}
-
-/// `|- t == t`.
-fn same(rt: &impl Abort, alloc: Global, t: &Term) -> Thm {
-    assert!(rt; Thm::can_refl(t));
-    got(rt, Thm::refl(alloc, t))
-}
-
-/// A theorem with a variable quantified.
-fn quantified(rt: &impl Abort, alloc: Global, letter: char, t: &Thm) -> Thm {
-    let x = name(rt, alloc, letter);
+fn all(rt: &impl Abort, alloc: Global, body: &Term) -> Term {
+    let body = Shared::new(alloc, got(rt, body.copy())).expect(rt, "memory");
     let typ = prop(rt, alloc);
-    assert!(rt; Thm::can_all_intr(&x, &typ, t));
-    got(rt, Thm::all_intr(alloc, &x, &typ, t))
+    let predicate = Term::Abs(prop(rt, alloc), body);
+    got(rt, iv_equations::terms::all(alloc, &typ, &predicate))
 }
 
-#[test]
-fn axioms(rt: HostRuntime) {
-    let alloc = rt.alloc();
-    let a = text(&rt, alloc, 'a');
-    let all = quantified(
-        &rt,
-        alloc,
-        'A',
-        &implied(&rt, alloc, &variable(&rt, alloc, 'A')),
-    );
-    let stated = got(&rt, all.prop().copy());
-    let mut sig = got(&rt, Sig::new(alloc));
-    assert!(rt; !Thm::can_axiom(&sig, &a));
-    assert!(rt; sig.add_axiom(alloc, text(&rt, alloc, 'a'), stated).is_ok());
-    assert!(rt; Thm::can_axiom(&sig, &a));
-    let thm = got(&rt, Thm::axiom(alloc, &sig, &a));
-    assert!(rt; thm.prop().is(all.prop()));
+fn eq(rt: &impl Abort, alloc: Global, s: &Term, t: &Term) -> Term {
+    let typ = prop(rt, alloc);
+    got(rt, iv_equations::terms::eq(alloc, &typ, s, t))
 }
 
-#[test]
-fn implications(rt: HostRuntime) {
-    let alloc = rt.alloc();
-    let a = variable(&rt, alloc, 'A');
-    let open = assumed(&rt, alloc, &a);
-    let closed = implied(&rt, alloc, &a);
-    assert!(rt; !Thm::can_assume(&loose()) && !Thm::can_imp_intr(&loose(), &open));
-    assert!(rt; !Thm::can_imp_elim(&open, &closed));
-    assert!(rt; Thm::can_imp_elim(&closed, &open));
-    let thm = got(&rt, Thm::imp_elim(alloc, &closed, &open));
-    assert!(rt; thm.prop().is(&a) && thm.hyps().has(&a) && closed.hyps().is_nil());
-    assert!(rt; matches!(open.derivation(), Derivation::Assume(_)));
+/// A term of the one or two in front, in their place.
+fn compound(rt: &impl Abort, alloc: Global, letter: char, terms: &Terms) -> Terms {
+    let first = front(rt, terms);
+    let rest = behind(rt, terms);
+    let (made, rest) = match letter {
+        '!' => (all(rt, alloc, first), rest),
+        '~' => (eq(rt, alloc, front(rt, rest), first), behind(rt, rest)),
+        _ => (
+            got(rt, Term::imp(alloc, front(rt, rest), first)),
+            behind(rt, rest),
+        ),
+    };
+    got(rt, Terms::cons(alloc, made, got(rt, rest.copy())))
 }
 
-#[test]
-fn quantifiers(rt: HostRuntime) {
-    let alloc = rt.alloc();
-    let a = variable(&rt, alloc, 'A');
-    let open = assumed(&rt, alloc, &a);
-    assert!(rt; !Thm::can_all_intr(&name(&rt, alloc, 'A'), &prop(&rt, alloc), &open));
-    let all = quantified(&rt, alloc, 'A', &implied(&rt, alloc, &a));
-    let b = variable(&rt, alloc, 'B');
-    assert!(rt; Thm::can_all_elim(&b, &all) && !Thm::can_all_elim(&loose(), &all));
-    let one = got(&rt, Thm::all_elim(alloc, &b, &all));
-    assert!(rt; one.prop().is(implied(&rt, alloc, &b).prop()));
+fn read(rt: &impl Abort, alloc: Global, letter: char, terms: Terms) -> Terms {
+    match letter {
+        'A' | 'B' | 'C' | '0' | '?' => got(rt, Terms::cons(alloc, atom(rt, alloc, letter), terms)),
+        '>' | '~' | '!' => compound(rt, alloc, letter, &terms),
+        _ => terms,
+    }
 }
 
-#[test]
-fn equations(rt: HostRuntime) {
-    let alloc = rt.alloc();
-    let a = variable(&rt, alloc, 'A');
-    let open = assumed(&rt, alloc, &a);
-    let closed = implied(&rt, alloc, &a);
-    assert!(rt; !Thm::can_refl(&loose()) && !Thm::can_eq_intr(&open, &closed));
-    assert!(rt; Thm::can_eq_intr(&closed, &closed));
-    let both = got(&rt, Thm::eq_intr(alloc, &closed, &closed));
-    assert!(rt; Thm::can_sym(&both) && !Thm::can_sym(&open));
-    assert!(rt; Thm::can_eq_elim(&both, &open) && !Thm::can_eq_elim(&open, &open));
-    let other = same(&rt, alloc, &variable(&rt, alloc, 'B'));
-    assert!(rt; Thm::can_trans(&both, &both) && !Thm::can_trans(&both, &other));
-}
-
-#[test]
-fn congruences(rt: HostRuntime) {
-    let alloc = rt.alloc();
-    let a = same(&rt, alloc, &variable(&rt, alloc, 'A'));
-    let f = same(&rt, alloc, &operator(&rt, alloc, 'f'));
-    assert!(rt; Thm::can_comb(&f, &a) && !Thm::can_comb(&a, &f));
-    let x = name(&rt, alloc, 'A');
-    let typ = prop(&rt, alloc);
-    let open = assumed(&rt, alloc, a.prop());
-    assert!(rt; Thm::can_abs(&x, &typ, &a) && !Thm::can_abs(&x, &typ, &open));
-    let abs = got(&rt, Thm::abs(alloc, &x, &typ, &a));
-    assert!(rt; Thm::can_comb(&abs, &a));
-    let thm = got(&rt, Thm::comb(alloc, &abs, &a));
-    assert!(rt; thm.prop().is(a.prop()));
-}
-
-/// `B ==> (!!A. A ==> A)` and `!!A. B ==> A ==> A` have one form; `B ==> A ==> A` has another.
-#[test]
-fn forms(rt: HostRuntime) {
-    let alloc = rt.alloc();
-    let b = variable(&rt, alloc, 'B');
-    let closed = implied(&rt, alloc, &variable(&rt, alloc, 'A'));
-    let late = discharged(&rt, alloc, &b, &quantified(&rt, alloc, 'A', &closed));
-    let open = discharged(&rt, alloc, &b, &closed);
-    let early = quantified(&rt, alloc, 'A', &open);
-    assert!(rt; got(&rt, Thm::can_conv(alloc, early.prop(), &late)));
-    assert!(rt; !got(&rt, Thm::can_conv(alloc, open.prop(), &late)));
+/// The axiom `x`, which is `?`.
+fn declared(rt: &impl Abort, alloc: Global) -> Sig {
+    let mut sig = got(rt, Sig::new(alloc));
+    let given = sig.add_axiom(alloc, text(rt, alloc, 'x'), atom(rt, alloc, '?'));
+    assert!(rt; given.is_ok());
+    sig
 }
 
 /// `B` for `A`.
@@ -166,11 +108,7 @@ fn b_for_a(rt: &impl Abort, alloc: Global) -> Instance {
     let mut frees = VarTerms::new(alloc);
     got(
         rt,
-        frees.push(
-            name(rt, alloc, 'A'),
-            prop(rt, alloc),
-            variable(rt, alloc, 'B'),
-        ),
+        frees.push(name(rt, alloc, 'A'), prop(rt, alloc), atom(rt, alloc, 'B')),
     );
     Instance {
         fixed: FixedTypes::new(alloc),
@@ -180,52 +118,261 @@ fn b_for_a(rt: &impl Abort, alloc: Global) -> Instance {
     }
 }
 
+/// What rules are given beside terms and theorems.
+#[derive(Drop)]
+struct Given {
+    alloc: Global,
+    sig: Sig,
+    axiom: Text,
+    other: Text,
+    variable: Name,
+    typ: Typ,
+    instance: Instance,
+}
+
+fn all_given(rt: &impl Abort, alloc: Global) -> Given {
+    Given {
+        alloc,
+        sig: declared(rt, alloc),
+        axiom: text(rt, alloc, 'x'),
+        other: text(rt, alloc, 'y'),
+        variable: name(rt, alloc, 'A'),
+        typ: prop(rt, alloc),
+        instance: b_for_a(rt, alloc),
+    }
+}
+
+fn goal_of_two(rt: &impl Abort, alloc: Global, claim: &Term, t: &Thm) -> Goal {
+    let thm = got(rt, t.copy());
+    let is_goal = Goal::can_make(alloc, &thm, 2, claim).expect(rt, "memory");
+    assert!(rt; is_goal);
+    got(rt, Goal::made(thm, 2, claim))
+}
+
+/// A theorem as a goal of two subgoals, with the first of them behind the second.
+fn turned(rt: &impl Abort, alloc: Global, claim: &Term, t: &Thm) -> Thm {
+    let goal = goal_of_two(rt, alloc, claim, t);
+    assert_eq!(rt; goal.count(), 2);
+    let goal = got(rt, goal.rotate(alloc, 1, 2));
+    assert!(rt; goal.count() == 2 && goal.claim().is(claim));
+    got(rt, goal.thm().copy())
+}
+
+fn of_term(rt: &impl Abort, g: &Given, letter: char, a: &Term) -> Thm {
+    match letter {
+        'h' => {
+            assert!(rt; Thm::can_assume(a));
+            got(rt, Thm::assume(g.alloc, a))
+        }
+        'r' => {
+            assert!(rt; Thm::can_refl(a));
+            got(rt, Thm::refl(g.alloc, a))
+        }
+        _ => {
+            assert!(rt; Thm::can_axiom(&g.sig, &g.axiom));
+            got(rt, Thm::axiom(g.alloc, &g.sig, &g.axiom))
+        }
+    }
+}
+
+fn of_both(rt: &impl Abort, g: &Given, letter: char, a: &Term, t: &Thm) -> Thm {
+    match letter {
+        'i' => {
+            assert!(rt; Thm::can_imp_intr(a, t));
+            got(rt, Thm::imp_intr(g.alloc, a, t))
+        }
+        'v' => {
+            assert!(rt; Thm::can_all_elim(a, t));
+            got(rt, Thm::all_elim(g.alloc, a, t))
+        }
+        'n' => {
+            assert!(rt; Thm::can_conv(g.alloc, a, t).expect(rt, "memory"));
+            got(rt, Thm::conv(g.alloc, a, t))
+        }
+        _ => turned(rt, g.alloc, a, t),
+    }
+}
+
+fn of_one(rt: &impl Abort, g: &Given, letter: char, t: &Thm) -> Thm {
+    match letter {
+        's' => {
+            assert!(rt; Thm::can_sym(t));
+            got(rt, Thm::sym(g.alloc, t))
+        }
+        'q' => {
+            assert!(rt; Thm::can_all_intr(&g.variable, &g.typ, t));
+            got(rt, Thm::all_intr(g.alloc, &g.variable, &g.typ, t))
+        }
+        'l' => {
+            assert!(rt; Thm::can_abs(&g.variable, &g.typ, t));
+            got(rt, Thm::abs(g.alloc, &g.variable, &g.typ, t))
+        }
+        _ => {
+            assert!(rt; Thm::can_inst(&g.instance, t));
+            got(rt, Thm::inst(g.alloc, &g.instance, t))
+        }
+    }
+}
+
+fn of_two(rt: &impl Abort, alloc: Global, letter: char, s: &Thm, t: &Thm) -> Thm {
+    match letter {
+        'm' => {
+            assert!(rt; Thm::can_imp_elim(s, t));
+            got(rt, Thm::imp_elim(alloc, s, t))
+        }
+        'e' => {
+            assert!(rt; Thm::can_eq_intr(s, t));
+            got(rt, Thm::eq_intr(alloc, s, t))
+        }
+        'w' => {
+            assert!(rt; Thm::can_eq_elim(s, t));
+            got(rt, Thm::eq_elim(alloc, s, t))
+        }
+        't' => {
+            assert!(rt; Thm::can_trans(s, t));
+            got(rt, Thm::trans(alloc, s, t))
+        }
+        _ => {
+            assert!(rt; Thm::can_comb(s, t));
+            got(rt, Thm::comb(alloc, s, t))
+        }
+    }
+}
+
+/// Whether the rule of a capital can be used, or what a sign asks for holds: `=` that the proposition is the term in front,
+/// `+` that a hypothesis is, `-` that there is none, `f` and `o` that `fixed_hyps` and `one_typed` hold.
+fn holds(rt: &impl Abort, g: &Given, letter: char, a: &Term, t: &Thm) -> bool {
+    match letter {
+        '=' => t.prop().is(a),
+        '+' => t.hyps().has(a),
+        '-' => t.hyps().is_nil(),
+        'f' | 'F' => t.fixed_hyps(),
+        'o' => t.one_typed(),
+        'X' => Thm::can_axiom(&g.sig, &g.other),
+        'H' => Thm::can_assume(a),
+        'R' => Thm::can_refl(a),
+        'I' => Thm::can_imp_intr(a, t),
+        'V' => Thm::can_all_elim(a, t),
+        'N' => got(rt, Thm::can_conv(g.alloc, a, t)),
+        'G' => got(rt, Goal::can_make(g.alloc, t, 2, a)),
+        'S' => Thm::can_sym(t),
+        'Q' => Thm::can_all_intr(&g.variable, &g.typ, t),
+        'L' => Thm::can_abs(&g.variable, &g.typ, t),
+        _ => Thm::can_inst(&g.instance, t),
+    }
+}
+
+/// The same of a rule of two theorems.
+fn can_join(letter: char, s: &Thm, t: &Thm) -> bool {
+    match letter {
+        'M' => Thm::can_imp_elim(s, t),
+        'E' => Thm::can_eq_intr(s, t),
+        'W' => Thm::can_eq_elim(s, t),
+        'T' => Thm::can_trans(s, t),
+        _ => Thm::can_comb(s, t),
+    }
+}
+
+/// The last theorem, and the one before it.
+fn last<'a>(rt: &impl Abort, thms: &'a [Thm]) -> &'a Thm {
+    match thms {
+        [.., last] => last,
+        _ => panic!(rt; "no theorem"),
+    }
+}
+
+fn before<'a>(rt: &impl Abort, thms: &'a [Thm]) -> &'a Thm {
+    match thms {
+        [.., before, _last] => before,
+        _ => panic!(rt; "no theorem"),
+    }
+}
+
+fn step(rt: &impl Abort, g: &Given, letter: char, a: &Term, thms: &[Thm]) -> Option<Thm> {
+    match letter {
+        'x' | 'h' | 'r' => Some(of_term(rt, g, letter, a)),
+        'i' | 'v' | 'n' | 'g' => Some(of_both(rt, g, letter, a, last(rt, thms))),
+        's' | 'q' | 'l' | 'p' => Some(of_one(rt, g, letter, last(rt, thms))),
+        'm' | 'e' | 'w' | 't' | 'k' => Some(of_two(
+            rt,
+            g.alloc,
+            letter,
+            before(rt, thms),
+            last(rt, thms),
+        )),
+        _ => None,
+    }
+}
+
+fn ask(rt: &impl Abort, g: &Given, letter: char, a: &Term, thms: &[Thm]) {
+    match letter {
+        '=' | '+' | '-' | 'f' | 'o' => {
+            assert!(rt; holds(rt, g, letter, a, last(rt, thms)));
+        }
+        'X' | 'H' | 'R' | 'I' | 'V' | 'N' | 'G' | 'S' | 'Q' | 'L' | 'P' | 'F' => {
+            assert!(rt; !holds(rt, g, letter, a, last(rt, thms)));
+        }
+        'M' | 'E' | 'W' | 'T' | 'K' => {
+            assert!(rt; !can_join(letter, before(rt, thms), last(rt, thms)));
+        }
+        _ => {}
+    }
+}
+
+fn prove(rt: &impl Abort, alloc: Global, written: &str) {
+    let g = all_given(rt, alloc);
+    let mut terms = Terms::Nil;
+    let mut thms = Vec::new(alloc);
+    for letter in written.chars() {
+        terms = read(rt, alloc, letter, terms);
+        ask(rt, &g, letter, front(rt, &terms), thms.as_slice());
+        let made = step(rt, &g, letter, front(rt, &terms), thms.as_slice());
+        if let Some(thm) = made {
+            thms.push(thm).expect(rt, "memory");
+        }
+    }
+}
+
+#[test]
+fn axioms(rt: HostRuntime) {
+    prove(&rt, rt.alloc(), "?x=-X");
+}
+
+#[test]
+fn implications(rt: HostRuntime) {
+    prove(&rt, rt.alloc(), "Ah=+ 0HI Ai- AA>= Ahm=+ M");
+}
+
+#[test]
+fn quantifiers(rt: HostRuntime) {
+    prove(&rt, rt.alloc(), "AhQiq 00>!= 0V Bv BB>= BV");
+}
+
+#[test]
+fn equations(rt: HostRuntime) {
+    prove(&rt, rt.alloc(), "Ar AA~= 0R BrT BhS");
+    prove(&rt, rt.alloc(), "AB>h BA>h e AB~= s BA~= t AA~= E");
+    prove(&rt, rt.alloc(), "AB>h BA>h e Ahw B= W");
+}
+
+#[test]
+fn congruences(rt: HostRuntime) {
+    prove(&rt, rt.alloc(), "ArlK rk AA~= AA~hL");
+}
+
+/// `B ==> (!!A. A ==> A)` and `!!A. B ==> A ==> A` have one form; `B ==> A ==> A` has another.
+#[test]
+fn forms(rt: HostRuntime) {
+    prove(&rt, rt.alloc(), "Ahiq Bi BAA>>N B00>>!n=");
+}
+
 #[test]
 fn instances(rt: HostRuntime) {
-    let alloc = rt.alloc();
-    let a = variable(&rt, alloc, 'A');
-    let s = b_for_a(&rt, alloc);
-    let closed = implied(&rt, alloc, &a);
-    assert!(rt; Thm::can_inst(&s, &closed) && !Thm::can_inst(&s, &assumed(&rt, alloc, &a)));
-    let thm = got(&rt, Thm::inst(alloc, &s, &closed));
-    assert!(rt;
-        thm.prop()
-            .is(implied(&rt, alloc, &variable(&rt, alloc, 'B')).prop())
-    );
-    assert!(rt; thm.fixed_hyps() && thm.one_typed());
+    prove(&rt, rt.alloc(), "AhP ip BB>=fo ?hFo");
 }
 
+/// `B ==> C ==> A` as a goal, and `C ==> B ==> A`.
 #[test]
-fn a_theorem_is_read_as_a_goal(rt: HostRuntime) {
-    let alloc = rt.alloc();
-    let a = variable(&rt, alloc, 'A');
-    let thm = implied(&rt, alloc, &a);
-    assert!(rt; !got(&rt, Goal::can_make(alloc, &thm, 0, &a)));
-    let is_goal = Goal::can_make(alloc, &thm, 1, &a).expect(&rt, "memory");
-    assert!(rt; is_goal);
-    let goal = got(&rt, Goal::made(thm, 1, &a));
-    assert_eq!(rt; goal.count(), 1);
-}
-
-/// `a |- b ==> c ==> a` as a goal.
-fn goal_of_two(rt: &impl Abort, alloc: Global, a: &Term, b: &Term, c: &Term) -> Goal {
-    let thm = discharged(rt, alloc, c, &assumed(rt, alloc, a));
-    let thm = discharged(rt, alloc, b, &thm);
-    let is_goal = Goal::can_make(alloc, &thm, 2, a).expect(rt, "memory");
-    assert!(rt; is_goal);
-    got(rt, Goal::made(thm, 2, a))
-}
-
-#[test]
-fn two_subgoals_are_turned_round(rt: HostRuntime) {
-    let alloc = rt.alloc();
-    let a = variable(&rt, alloc, 'A');
-    let b = variable(&rt, alloc, 'B');
-    let c = variable(&rt, alloc, 'C');
-    let goal = goal_of_two(&rt, alloc, &a, &b, &c);
-    assert_eq!(rt; goal.count(), 2);
-    let turned = got(&rt, goal.rotate(alloc, 1, 2));
-    assert_eq!(rt; turned.count(), 2);
-    assert!(rt; turned.subgoal(1).is(&c) && turned.subgoal(2).is(&b));
-    assert!(rt; turned.claim().is(&a) && turned.thm().hyps().has(&a));
+fn subgoals_are_turned_round(rt: HostRuntime) {
+    prove(&rt, rt.alloc(), "AhG Ci Bi Ag CBA>>= A+");
 }

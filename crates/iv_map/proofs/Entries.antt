@@ -7,7 +7,7 @@ use Rattle.std.specs.Map.{keys_of}
 use Rattle.iv_term.specs.declared.name.Name.{Name}
 use Rattle.iv_term.specs.Typ.{same_name}
 use Rattle.iv_term.proofs.Laws.Same.{same_name-true, same_name-same}
-use Rattle.iv_map.specs.Key.{same_name-equiv}
+use Rattle.iv_term.specs.Key.{same_name-equiv}
 use Rattle.iv_map.specs.NameMap.{Entries, look}
 
 -- the entry at an index, and those behind it

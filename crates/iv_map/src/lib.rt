@@ -5,7 +5,6 @@
 #![tactic(auto)]
 
 pub mod copied;
-mod key;
 pub mod name_map;
 
 pub use copied::Copied;

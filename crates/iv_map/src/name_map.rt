@@ -7,7 +7,6 @@ ghost use Rattle.iv_term.specs.declared.want.Want.TheVariants.{Memory};
 ghost use Rattle.iv_map.specs.NameMap.{look};
 
 use crate::copied::Copied;
-use crate::key::{Key, Wanted};
 use indexmap::IndexMap;
 use iv_term::{Mem, Name};
 use std::alloc::Global;
@@ -15,7 +14,7 @@ use std::marker::Model;
 
 /// Values by name, in order of entry. Contracts see the list of its entries; no two have one name.
 pub struct NameMap<V> {
-    by_name: IndexMap<Key, V>,
+    by_name: IndexMap<Name, V>,
 }
 
 // By hand, so that a caller's proof has one call where a map ends.
@@ -60,15 +59,14 @@ impl<V: Drop> NameMap<V> {
         requires { index < length self.now }
         ensures { slice_get self.now index ≡ Some (result.0.now, result.1.now) }
     {
-        let (key, value) = self.by_name.get_index(index).unwrap();
-        (&key.name, value)
+        self.by_name.get_index(index).unwrap()
     }
 
     /// What a name has. Takes no memory.
     pub fn get(&self, name: &Name) -> Option<&V>
         ensures { option_copied result ≡ look self.now name.now }
     {
-        self.by_name.get(Wanted { name })
+        self.by_name.get(name)
     }
 
     /// Whether a name has an entry. Takes no memory.
@@ -85,7 +83,7 @@ impl<V: Drop> NameMap<V> {
         ensures err { OnErr result (self.new ≡ self.old) }
         ensures memory { IfErr result (λ w. w ≡ Memory) }
     {
-        self.by_name.insert(Key { name }, value)?;
+        self.by_name.insert(name, value)?;
         Ok(())
     }
 }

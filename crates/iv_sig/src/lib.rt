@@ -6,7 +6,6 @@
 #![tactic(auto)]
 
 pub mod conditions;
-pub mod copied;
 mod declare;
 pub mod error;
 pub mod fixity;
@@ -17,7 +16,6 @@ pub mod sig;
 mod symbols;
 pub mod table;
 
-pub use copied::Copied;
 pub use error::SigError;
 pub use fixity::Fixity;
 pub use notations::Notations;

@@ -10,9 +10,9 @@ ghost use Rattle.iv_sig.specs.Fixity.{symbol_of};
 ghost use Rattle.iv_sig.specs.Signature.{by_symbol};
 ghost use Rattle.iv_sig.specs.Table.{look};
 
-use crate::copied::Copied;
 use crate::fixity::Fixity;
 use crate::table::Table;
+use iv_map::Copied;
 use iv_term::{Mem, Text};
 use std::alloc::Global;
 use std::marker::Model;
@@ -47,12 +47,6 @@ impl Model for Notations {
     ghost view = { λ n. n.by_constant };
 
     ghost invariant = { λ n. n.by_symbol ≡ found n.by_constant };
-}
-
-impl Copied for (Text, Fixity) {
-    fn copied(&self) -> Mem<(Text, Fixity)> {
-        Ok((self.0.copy()?, self.1.copied()?))
-    }
 }
 
 impl Notations {

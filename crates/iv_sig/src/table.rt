@@ -7,8 +7,8 @@ ghost use Rattle.std.specs.Str.{bytes_eq};
 ghost use Rattle.iv_term.specs.declared.want.Want.TheVariants.{Memory};
 ghost use Rattle.iv_sig.specs.Table.{look};
 
-use crate::copied::Copied;
 use indexmap::IndexMap;
+use iv_map::Copied;
 use iv_term::{Mem, Text};
 use std::alloc::Global;
 use std::marker::Model;

@@ -12,6 +12,10 @@ fn text(rt: &impl Abort, alloc: Global, chars: &[char]) -> Text {
     got(rt, Text::from_slice(alloc, chars))
 }
 
+fn prop(rt: &impl Abort, alloc: Global) -> Typ {
+    got(rt, Typ::prop(alloc))
+}
+
 /// What a declaration answers, in a word.
 fn answer(given: Result<(), SigError>) -> &'static str {
     match given {
@@ -25,105 +29,118 @@ fn answer(given: Result<(), SigError>) -> &'static str {
     }
 }
 
-fn prop(rt: &impl Abort, alloc: Global) -> Typ {
-    got(rt, Typ::prop(alloc))
+fn expect(rt: &impl Abort, given: Result<(), SigError>, expected: &str) {
+    assert_eq!(rt; answer(given), expected);
+}
+
+fn add_type(rt: &impl Abort, alloc: Global, sig: &mut Sig, name: char, expected: &str) {
+    let given = sig.add_type(alloc, text(rt, alloc, &[name]), 0);
+    expect(rt, given, expected);
+}
+
+/// Declares a constant of type `prop`.
+fn add_const(rt: &impl Abort, alloc: Global, sig: &mut Sig, name: char, expected: &str) {
+    let given = sig.add_const(alloc, text(rt, alloc, &[name]), prop(rt, alloc));
+    expect(rt, given, expected);
+}
+
+/// Declares a judgment of type `o => prop`, where `o` is given.
+fn judge(rt: &impl Abort, alloc: Global, sig: &mut Sig, name: char, o: Typ, expected: &str) {
+    let typ = got(rt, Typ::fun(alloc, o, prop(rt, alloc)));
+    let given = sig.set_judgment(alloc, text(rt, alloc, &[name]), typ);
+    expect(rt, given, expected);
+}
+
+fn variable(rt: &impl Abort, alloc: Global) -> Name {
+    let text = text(rt, alloc, &['P']);
+    Name { text, number: 0 }
+}
+
+/// The variable `P` of type `prop`: free for `P`, schematic for `?`, and bound for a digit.
+fn head(rt: &impl Abort, alloc: Global, sign: char) -> Head {
+    match sign {
+        'P' => Head::Free(variable(rt, alloc), prop(rt, alloc)),
+        '?' => Head::Schematic(variable(rt, alloc), prop(rt, alloc)),
+        _ => Head::Bound(0),
+    }
+}
+
+/// Declares the axiom `a`, a head alone.
+fn add_axiom(rt: &impl Abort, alloc: Global, sig: &mut Sig, sign: char, expected: &str) {
+    let axiom = Term::Spine(head(rt, alloc, sign), Terms::Nil);
+    let given = sig.add_axiom(alloc, text(rt, alloc, &['a']), axiom);
+    expect(rt, given, expected);
 }
 
 /// The Pure types and constants, and a constant `c` of type `prop`.
 fn with_c(rt: &impl Abort, alloc: Global) -> Sig {
     let mut sig = got(rt, Sig::new(alloc));
-    let added = sig.add_const(alloc, text(rt, alloc, &['c']), prop(rt, alloc));
-    assert_eq!(rt; answer(added), "declared");
+    add_const(rt, alloc, &mut sig, 'c', "declared");
     sig
 }
 
 #[test]
 fn types_and_constants(rt: HostRuntime) {
     let alloc = rt.alloc();
-    let mut sig = got(&rt, Sig::new(alloc));
-    let first = sig.add_type(alloc, text(&rt, alloc, &['i']), 0);
-    assert_eq!(rt; answer(first), "declared");
-    let second = sig.add_type(alloc, text(&rt, alloc, &['i']), 1);
-    assert_eq!(rt; answer(second), "duplicate");
-    let third = sig.add_const(alloc, text(&rt, alloc, &['i']), prop(&rt, alloc));
-    assert_eq!(rt; answer(third), "duplicate");
-    let other = sig.add_const(alloc, text(&rt, alloc, &['c']), prop(&rt, alloc));
-    assert_eq!(rt; answer(other), "declared");
-    assert_eq!(rt; sig.type_count(), 3);
-    assert!(rt; sig.has_const(&text(&rt, alloc, &['c'])));
+    let mut sig = with_c(&rt, alloc);
+    add_type(&rt, alloc, &mut sig, 'i', "declared");
+    add_type(&rt, alloc, &mut sig, 'i', "duplicate");
+    add_const(&rt, alloc, &mut sig, 'i', "duplicate");
+    assert!(rt; sig.type_count() == 3 && sig.has_const(&text(&rt, alloc, &['c'])));
     assert_eq!(rt; sig.arity(&text(&rt, alloc, &['f', 'u', 'n'])), Some(2));
-}
-
-/// `o => prop`, where `o` is given.
-fn judgment_typ(rt: &impl Abort, alloc: Global, o: Typ) -> Typ {
-    got(rt, Typ::fun(alloc, o, prop(rt, alloc)))
 }
 
 #[test]
 fn judgments(rt: HostRuntime) {
     let alloc = rt.alloc();
     let mut sig = with_c(&rt, alloc);
-    let open = judgment_typ(&rt, alloc, Typ::Fixed(text(&rt, alloc, &['a'])));
-    let bad = sig.set_judgment(alloc, text(&rt, alloc, &['T']), open);
-    assert_eq!(rt; answer(bad), "bad judgment");
-    let typ = judgment_typ(&rt, alloc, prop(&rt, alloc));
-    let twice = sig.set_judgment(alloc, text(&rt, alloc, &['c']), typ);
-    assert_eq!(rt; answer(twice), "duplicate");
+    let open = Typ::Fixed(text(&rt, alloc, &['a']));
+    judge(&rt, alloc, &mut sig, 'T', open, "bad judgment");
+    judge(&rt, alloc, &mut sig, 'c', prop(&rt, alloc), "duplicate");
     assert!(rt; sig.judgment().is_none());
-    let typ = judgment_typ(&rt, alloc, prop(&rt, alloc));
-    let first = sig.set_judgment(alloc, text(&rt, alloc, &['T']), typ);
-    assert_eq!(rt; answer(first), "declared");
+    judge(&rt, alloc, &mut sig, 'T', prop(&rt, alloc), "declared");
     assert!(rt; sig.judgment().is_some_and(|name| name.is_chars(&['T'])));
-    let second = sig.set_judgment(alloc, text(&rt, alloc, &['c']), prop(&rt, alloc));
-    assert_eq!(rt; answer(second), "second judgment");
-}
-
-/// The variable `P` of type `prop`.
-fn variable(rt: &impl Abort, alloc: Global, is_free: bool) -> Term {
-    let name = Name {
-        text: text(rt, alloc, &['P']),
-        number: 0,
-    };
-    let typ = prop(rt, alloc);
-    let head = if is_free {
-        Head::Free(name, typ)
-    } else {
-        Head::Schematic(name, typ)
-    };
-    Term::Spine(head, Terms::Nil)
+    let typ = prop(&rt, alloc);
+    judge(&rt, alloc, &mut sig, 'c', typ, "second judgment");
 }
 
 #[test]
 fn axioms(rt: HostRuntime) {
     let alloc = rt.alloc();
-    let mut sig = with_c(&rt, alloc);
-    let free = sig.add_axiom(alloc, text(&rt, alloc, &['c']), variable(&rt, alloc, true));
-    assert_eq!(rt; answer(free), "bad axiom");
-    let index = Term::Spine(Head::Bound(0), Terms::Nil);
-    let loose = sig.add_axiom(alloc, text(&rt, alloc, &['c']), index);
-    assert_eq!(rt; answer(loose), "bad axiom");
-    let first = sig.add_axiom(alloc, text(&rt, alloc, &['c']), variable(&rt, alloc, false));
-    assert_eq!(rt; answer(first), "declared");
-    let second = sig.add_axiom(alloc, text(&rt, alloc, &['c']), variable(&rt, alloc, true));
-    assert_eq!(rt; answer(second), "duplicate");
+    let mut sig = got(&rt, Sig::new(alloc));
+    add_axiom(&rt, alloc, &mut sig, 'P', "bad axiom");
+    add_axiom(&rt, alloc, &mut sig, '0', "bad axiom");
+    add_axiom(&rt, alloc, &mut sig, '?', "declared");
+    add_axiom(&rt, alloc, &mut sig, 'P', "duplicate");
     assert_eq!(rt; sig.axioms().len(), 1);
 }
 
-/// The notations of `c` that are tried, each with what is answered.
+/// The symbol `|`.
+fn bar(rt: &impl Abort, alloc: Global) -> Text {
+    text(rt, alloc, &['|'])
+}
+
+/// Whether `c` may have a notation.
+fn can(rt: &impl Abort, alloc: Global, sig: &Sig, fixity: Fixity) -> bool {
+    sig.can_add_notation(&text(rt, alloc, &['c']), &fixity)
+}
+
 #[test]
 fn conditions_of_notations(rt: HostRuntime) {
     let alloc = rt.alloc();
     let sig = with_c(&rt, alloc);
-    let c = text(&rt, alloc, &['c']);
-    let or = text(&rt, alloc, &['|']);
-    assert!(rt; sig.can_add_notation(&c, &Fixity::Infixr(got(&rt, or.copy()), 999)));
-    assert!(rt; !sig.can_add_notation(&c, &Fixity::Infixr(got(&rt, or.copy()), 1000)));
-    assert!(rt; sig.can_add_notation(&c, &Fixity::Prefix(got(&rt, or.copy()), 1000, 1000)));
-    assert!(rt; !sig.can_add_notation(&c, &Fixity::Binder(got(&rt, or.copy()), 1001)));
+    let infix = Fixity::Infixr(bar(&rt, alloc), 999);
+    assert!(rt; can(&rt, alloc, &sig, infix));
+    let infix = Fixity::Infixr(bar(&rt, alloc), 1000);
+    assert!(rt; !can(&rt, alloc, &sig, infix));
+    let prefix = Fixity::Prefix(bar(&rt, alloc), 1000, 1000);
+    assert!(rt; can(&rt, alloc, &sig, prefix));
+    let binder = Fixity::Binder(bar(&rt, alloc), 1001);
+    assert!(rt; !can(&rt, alloc, &sig, binder));
     let blank = Fixity::Plain(text(&rt, alloc, &['|', ' ']));
-    assert!(rt; !sig.can_add_notation(&c, &blank));
-    let eq = text(&rt, alloc, &['=', '=']);
-    assert!(rt; !sig.can_add_notation(&eq, &Fixity::Plain(or)));
+    assert!(rt; !can(&rt, alloc, &sig, blank));
+    let plain = Fixity::Plain(bar(&rt, alloc));
+    assert!(rt; !sig.can_add_notation(&text(&rt, alloc, &['=', '=']), &plain));
 }
 
 /// Gives `c` a symbol, where it may have it.
@@ -141,13 +158,11 @@ fn write_c(rt: &impl Abort, alloc: Global, sig: &mut Sig, symbol: &[char]) -> &'
 fn notations(rt: HostRuntime) {
     let alloc = rt.alloc();
     let mut sig = with_c(&rt, alloc);
-    assert_eq!(rt;
-        write_c(&rt, alloc, &mut sig, &['.', '.', '.']),
-        "second fixity"
-    );
-    assert_eq!(rt; write_c(&rt, alloc, &mut sig, &['|']), "declared");
-    assert_eq!(rt; write_c(&rt, alloc, &mut sig, &['&']), "refused");
+    let taken = write_c(&rt, alloc, &mut sig, &['.', '.', '.']);
+    let first = write_c(&rt, alloc, &mut sig, &['|']);
+    let second = write_c(&rt, alloc, &mut sig, &['&']);
+    assert!(rt; taken == "second fixity" && first == "declared" && second == "refused");
     let copy = got(&rt, sig.copy(alloc));
-    assert!(rt; copy.written_by(&text(&rt, alloc, &['|'])).is_some());
+    assert!(rt; copy.written_by(&bar(&rt, alloc)).is_some());
     assert!(rt; copy.notation(&text(&rt, alloc, &['c'])).is_some());
 }

@@ -6,3 +6,4 @@ pub mod Solved
 pub mod Heads
 pub mod Pairs
 pub mod Going
+pub mod Occurs

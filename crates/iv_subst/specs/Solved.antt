@@ -1,11 +1,12 @@
 -- Assignments as unification finds them, one after the other, none of them put in the earlier ones (triangular form; Baader
 -- and Snyder 2001, unification theory).
-use Rattle.std.specs.Prelude.{◌≡◌, ◌<◌, ℕ, zero, suc, if◌then◌else◌, [], ◌∷◌, length, Option, Some, None}
+use Rattle.std.specs.Prelude.{◌≡◌, ◌<◌, ℕ, zero, suc, false, if◌then◌else◌, List, [], ◌∷◌, length, Option, Some, None}
+use Rattle.std.specs.List.{AllByRecursion}
 use Rattle.iv_term.specs.declared.name.Name.{Name}
 use Rattle.iv_term.specs.declared.typ.Typ.{Typ}
 use Rattle.iv_term.specs.declared.typ.Typ.TheBlock.{Con, Fixed, Schematic}
 use Rattle.iv_term.specs.Typ.{same_name}
-use Rattle.iv_subst.specs.TySubst.{put_typ, TyMap, seek, at, under, assign, IsIdempotent}
+use Rattle.iv_subst.specs.TySubst.{put_typ, occurs, TyMap, seek, at, under, assign, IsIdempotent}
 
 -- s and then each assignment
 unfoldable pub grown : TyMap → TyMap → TyMap
@@ -38,3 +39,7 @@ link es (Schematic y) = seek es y
 -- a type that isn't a variable with an assignment
 abbrev pub IsHead : TyMap → Typ → Type 0
 IsHead es t = (y : Name) → t ≡ Schematic y → seek es y ≡ None
+
+-- x stands in none of these variables under the assignments
+unfoldable pub AreFree : TyMap → Name → List Name → Type 0
+AreFree es x ys = AllByRecursion (λ y. occurs x (put_typ (at (solved es)) (Schematic y)) ≡ false) ys

@@ -8,6 +8,7 @@ pub mod apply;
 mod compose;
 mod heads;
 pub mod no_unify;
+mod occurs;
 mod pairs;
 mod puts;
 pub mod solved;

@@ -58,7 +58,8 @@ impl Solved {
         head(&self.entries, typ)
     }
 
-    /// Whether a variable stands in a type under the assignments. Takes no memory.
+    /// Whether a variable stands in a type under the assignments. Takes no memory, so a type that is shared is walked at
+    /// each occurrence.
     pub fn is_inside(&self, name: &VarName, typ: &Typ) -> bool
         ensures { result ≡ occurs name.now (put_typ (at self.now) typ.now) }
     {

@@ -1,3 +1,5 @@
+ghost use Rattle.std.specs.Prelude.{◌<◌};
+
 use crate::*;
 use iv_term::{Mem, Name, Text, Typ, Types};
 use std::alloc::Global;
@@ -78,4 +80,28 @@ fn types_with_no_unifier(rt: HostRuntime) {
     assert!(rt; clash(alloc, &function, &prop));
     assert!(rt; clash(alloc, &function, &bare));
     assert!(rt; !clash(alloc, &variable, &prop));
+}
+
+/// Makes a variable the type of functions from the variable before it to itself.
+fn share(rt: &impl Abort, alloc: Global, solved: &mut Solved, before: u32)
+    requires { before < 40 }
+{
+    let variable = got(rt, var(alloc, before + 1));
+    let function = got(rt, arrow(alloc, before, before));
+    solved
+        .unify(alloc, &variable, &function)
+        .expect(rt, "a unifier");
+}
+
+#[test]
+fn types_that_are_shared(rt: HostRuntime) {
+    let alloc = rt.alloc();
+    let mut solved = Solved::new(alloc);
+    for before in 0..40 {
+        share(&rt, alloc, &mut solved, before);
+    }
+    let first = got(&rt, var(alloc, 0));
+    let last = got(&rt, var(alloc, 40));
+    let unified = solved.unify(alloc, &first, &last);
+    assert!(rt; unified.is_err_and(|e| e == NoUnify::Clash));
 }

@@ -5,8 +5,8 @@ ghost use Rattle.iv_subst.specs.declared.no_unify.NoUnify.TheVariants.{Clash};
 ghost use Rattle.iv_subst.specs.Unifier.{unified};
 ghost use Rattle.iv_subst.specs.Solved.{solved, AreSolved};
 
-use crate::heads::is_inside;
 use crate::no_unify::NoUnify;
+use crate::occurs::occurs;
 use crate::pairs::{next, pair};
 use crate::ty_subst::TySubst;
 use iv_term::Typ;
@@ -21,7 +21,7 @@ pub(crate) fn unify(es: &mut TySubst, alloc: Global, a: &Typ, b: &Typ) -> Result
 {
     let mut pairs = pair(alloc, a, b)?;
     while let Some((name, typ)) = next(es, &mut pairs)? {
-        if is_inside(es, &name, &typ) {
+        if occurs(es, alloc, &name, &typ)? {
             return Err(NoUnify::Clash);
         }
         es.push(name, typ)?;

@@ -1,5 +1,4 @@
 pub mod Typ
 pub mod Term
 pub mod Hyps
-pub mod Instance
-pub mod Derivation
+pub mod Key

@@ -94,32 +94,6 @@ consequent (Spine h ts) = first_or (Spine h ts) (rest_of ts)
 abbrev pub IsImplication : Term → Type 0
 IsImplication t = t ≡ imp (antecedent t) (consequent t)
 
--- a head of a proposition: a variable of type prop without arguments, or the implication of two
-abbrev pub IsHeadOfProposition : Head → Type 0 → Type 0 → Type 0
-IsHeadOfProposition (Const c a) none two = (c ≡ codes "==>") × (a ≡ implies) × two
-IsHeadOfProposition (Free x a) none two = (a ≡ prop) × none
-IsHeadOfProposition (Schematic x a) none two = (a ≡ prop) × none
-IsHeadOfProposition (Bound i) none two = ⊥
-
-unfoldable mutual
-  -- a proposition: a variable of type prop, or an implication between propositions
-  pub IsProposition : Term → Type 0
-  IsProposition (lam a b) = ⊥
-  IsProposition (Spine h ts) = IsHeadOfProposition h (ts ≡ Nil) (AreTwoPropositions ts)
-
-  pub AreTwoPropositions : Terms → Type 0
-  AreTwoPropositions Nil = ⊥
-  AreTwoPropositions (tm_cons p ts) = IsProposition p × IsOneProposition ts
-
-  pub IsOneProposition : Terms → Type 0
-  IsOneProposition Nil = ⊥
-  IsOneProposition (tm_cons p ts) = IsProposition p × (ts ≡ Nil)
-
--- each of some terms is a proposition
-unfoldable pub ArePropositions : Terms → Type 0
-ArePropositions Nil = Unit {0}
-ArePropositions (tm_cons t ts) = IsProposition t × ArePropositions ts
-
 -- whether a head is the free variable x of type a
 abbrev pub is_free : Name → Typ → Head → Bool
 is_free x a (Free y b) = same_name x y && same_typ a b

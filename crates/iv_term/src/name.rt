@@ -1,9 +1,12 @@
 ghost use Rattle.std.specs.Prelude.{◌≡◌, IfOk, IfErr, IsTrue, ◌↔◌};
 ghost use Rattle.iv_term.specs.Typ.{same_name};
 ghost use Rattle.iv_term.specs.declared.want.Want.TheVariants.{Memory};
+ghost use Rattle.std.specs.Cmp.{partial_equiv_from_equiv};
+ghost use Rattle.iv_term.specs.Key.{name_input, same_name-equiv, same_name-input};
 
 use crate::text::Text;
 use crate::want::Mem;
+use std::hash::{Hash, Hasher};
 
 /// A text and a number, which tells names of one text apart.
 #[derive(Drop)]
@@ -30,5 +33,30 @@ impl Name {
             text: self.text.copy()?,
             number: self.number,
         })
+    }
+}
+
+impl PartialEq for Name {
+    ghost eq = { same_name };
+
+    ghost laws = { partial_equiv_from_equiv same_name-equiv };
+
+    fn eq(&self, other: &Name) -> bool {
+        self.is(other)
+    }
+}
+
+impl Eq for Name {
+    ghost laws = { same_name-equiv };
+}
+
+impl Hash for Name {
+    ghost hash_input = { name_input };
+
+    ghost respects_eq = { same_name-input };
+
+    fn hash<H: Hasher>(&self, state: &mut H) {
+        self.text.as_slice().hash(state);
+        self.number.hash(state);
     }
 }

@@ -1,5 +1,6 @@
 -- Following variables to what they are assigned.
-use Rattle.std.proofs.Common.{◌≡◌, ℕ, refl, sym, ◌∙◌, ap, List, Option, None, Some, ◌≤◌, ◌<◌, ◌+◌, arith}
+use Rattle.std.proofs.Common.{◌≡◌, ℕ, suc, Bool, true, false, if◌then◌else◌, refl, sym, ◌∙◌, ap, List, [], ◌∷◌, length, Option, None, Some, ◌≤◌, ◌<◌, ◌+◌, arith}
+use Rattle.iv_term.specs.Typ.{same_name}
 use Rattle.iv_term.specs.declared.name.Name.{Name}
 use Rattle.iv_term.specs.declared.typ.Typ.{Typ}
 use Rattle.iv_term.specs.declared.typ.Types.{Types}
@@ -14,6 +15,21 @@ pub typ_rank : TyMap → Typ → ℕ
 typ_rank es (Con c ts) = 0
 typ_rank es (Fixed a) = 0
 typ_rank es (Schematic y) = rank es y
+
+rank-small_by : (es : TyMap) (y : Name) (b : Bool) → rank es y ≤ length es → (if b then suc (length es) else rank es y) ≤ suc (length es)
+rank-small_by es y true h = omega arith
+rank-small_by es y false h = omega arith
+
+rank-small : (es : TyMap) (y : Name) → rank es y ≤ length es
+unfolding rank
+rank-small [] y = omega arith
+rank-small (e ∷ es) y = rank-small_by es y (same_name y e.0) (rank-small es y)
+
+pub typ_rank-small : (es : TyMap) (t : Typ) → typ_rank es t ≤ length es
+unfolding typ_rank
+typ_rank-small es (Con c ts) = omega arith
+typ_rank-small es (Fixed a) = omega arith
+typ_rank-small es (Schematic y) = rank-small es y
 
 pub link-rank : (es : TyMap) → AreSolved es → (t u : Typ) → link es t ≡ Some u → typ_rank es u < typ_rank es t
 unfolding link typ_rank

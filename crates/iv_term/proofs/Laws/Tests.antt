@@ -7,11 +7,10 @@ use Rattle.iv_term.specs.declared.typ.Types.TheVariants.{Cons as TyCons}
 use Rattle.iv_term.specs.declared.typ.Typ.TheBlock.{Nil as no_types}
 use Rattle.iv_term.specs.declared.term.Term.{Term}
 use Rattle.iv_term.specs.declared.term.Terms.{Terms}
-use Rattle.iv_term.specs.declared.term.Terms.TheVariants.{Cons}
 use Rattle.iv_term.specs.declared.term.Term.TheBlock.{Spine, Nil}
 use Rattle.iv_term.specs.Typ.{ty_cons, cons_is as ty_cons_is}
 use Rattle.iv_term.specs.declared.term.Head.{Head}
-use Rattle.iv_term.specs.Term.{lam, tm_cons, cons_is, imp, imp_head, first_or, rest_of, are_two, antecedent, consequent, IsImplication, IsProposition, AreTwoPropositions, IsOneProposition}
+use Rattle.iv_term.specs.Term.{lam, tm_cons, imp, imp_head, first_or, rest_of, are_two, antecedent, consequent, IsImplication}
 
 ty_first : Types → Typ → Typ
 ty_first no_types d = d
@@ -37,35 +36,6 @@ pub types_no : {s : Types} {f g x : Typ} (r y : Types) {a : Bool} → s ≡ TyCo
 types_no {s} {f} {g} {x} r y {a} is first da untold =
     let e : s ≡ ty_cons g r = is ∙ ty_cons_is f r ∙ (λ i. ty_cons (sym first i) r) in
     (λ h. absurd (let bad : false ≡ true = sym untold ∙ h in cc), λ h. da.1 (ty_cons-parts g x r y (sym e ∙ h)).0)
-
--- two propositions, or one, exactly where the parts are
-pub two_yes : {s : Terms} {f g : Term} {r q : Terms} {a b : Bool} → s ≡ Cons f r → g ≡ f → q ≡ r
-    → Decides a (IsProposition g) → a ≡ true → Decides b (IsOneProposition q) → Decides b (AreTwoPropositions s)
-unfolding AreTwoPropositions
-two_yes {s} {f} {g} {r} {q} {a} {b} is first rest da told db =
-    let e : s ≡ tm_cons g q = is ∙ cons_is f r ∙ (λ i. tm_cons (sym first i) (sym rest i)) in
-    (λ h. subst AreTwoPropositions (sym e) (da.0 told, db.0 h), λ h. db.1 (subst AreTwoPropositions e h).1)
-
-pub two_no : {s : Terms} {f g : Term} (r : Terms) {a : Bool} → s ≡ Cons f r → g ≡ f
-    → Decides a (IsProposition g) → a ≡ false → Decides a (AreTwoPropositions s)
-unfolding AreTwoPropositions
-two_no {s} {f} {g} r {a} is first da untold =
-    let e : s ≡ tm_cons g r = is ∙ cons_is f r ∙ (λ i. tm_cons (sym first i) r) in
-    (λ h. absurd (let bad : false ≡ true = sym untold ∙ h in cc), λ h. da.1 (subst AreTwoPropositions e h).0)
-
-pub one_yes : {s : Terms} {f g : Term} {r q : Terms} {a b : Bool} → s ≡ Cons f r → g ≡ f → q ≡ r
-    → Decides a (IsProposition g) → a ≡ true → Decides b (q ≡ Nil) → Decides b (IsOneProposition s)
-unfolding IsOneProposition
-one_yes {s} {f} {g} {r} {q} {a} {b} is first rest da told db =
-    let e : s ≡ tm_cons g q = is ∙ cons_is f r ∙ (λ i. tm_cons (sym first i) (sym rest i)) in
-    (λ h. subst IsOneProposition (sym e) (da.0 told, db.0 h), λ h. db.1 (subst IsOneProposition e h).1)
-
-pub one_no : {s : Terms} {f g : Term} (r : Terms) {a : Bool} → s ≡ Cons f r → g ≡ f
-    → Decides a (IsProposition g) → a ≡ false → Decides a (IsOneProposition s)
-unfolding IsOneProposition
-one_no {s} {f} {g} r {a} is first da untold =
-    let e : s ≡ tm_cons g r = is ∙ cons_is f r ∙ (λ i. tm_cons (sym first i) r) in
-    (λ h. absurd (let bad : false ≡ true = sym untold ∙ h in cc), λ h. da.1 (subst IsOneProposition e h).0)
 
 -- two terms are the first and the second
 pub are_two-parts : (d e : Term) (ts : Terms) → are_two ts ≡ true → ts ≡ tm_cons (first_or d ts) (tm_cons (first_or e (rest_of ts)) Nil)

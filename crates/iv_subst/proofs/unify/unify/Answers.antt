@@ -14,11 +14,11 @@ returns-in_err-name-clause-clash c =
     let p = err_from_is_err_and c.from_residual-in_err-name.result c.from_residual-in_err-name.ensures.1 in
     rw (p.1, p.2) (λ z. going-clash c.args.es.now c.loop-pairs.es c.args.a.now c.args.b.now c.loop-pairs.pairs.items c.loop-pairs.invariant (c.in_err-name.ensures.clash z))
 
-pub returns-then-is_inside-clause-clash : goal.returns-then-is_inside-clause-clash
-returns-then-is_inside-clause-clash c =
+pub returns-then-branch-clause-clash : goal.returns-then-branch-clause-clash
+returns-then-branch-clause-clash c =
     let step : IsStep c.loop-pairs.es c.loop-pairs.pairs.items c.next.new.pairs.items (Some (c.in-Some.name, c.in-Some.typ)) =
     subst (IsStep c.loop-pairs.es c.loop-pairs.pairs.items c.next.new.pairs.items) c.in-Some.is c.in_ok-name.ensures.step in
-    let inside : occurs c.in-Some.name (put_typ (at (solved c.loop-pairs.es)) c.in-Some.typ) ≡ true = sym c.is_inside.ensures ∙ c.if-is_inside.true in
+    let inside : occurs c.in-Some.name (put_typ (at (solved c.loop-pairs.es)) c.in-Some.typ) ≡ true = sym c.in_ok-occurs.ensures.ok ∙ c.if-branch.true in
     λ z. going-inside c.args.es.now c.loop-pairs.es c.args.a.now c.args.b.now c.loop-pairs.pairs.items c.next.new.pairs.items c.in-Some.name c.in-Some.typ
     c.loop-pairs.invariant step inside
 
@@ -26,7 +26,7 @@ pub loop-pairs-preserved : goal.loop-pairs-preserved
 loop-pairs-preserved c =
     let step : IsStep c.loop-pairs.es c.loop-pairs.pairs.items c.next.new.pairs.items (Some (c.in-Some.name, c.in-Some.typ)) =
     subst (IsStep c.loop-pairs.es c.loop-pairs.pairs.items c.next.new.pairs.items) c.in-Some.is c.in_ok-name.ensures.step in
-    let outside : occurs c.in-Some.name (put_typ (at (solved c.loop-pairs.es)) c.in-Some.typ) ≡ false = sym c.is_inside.ensures ∙ c.if-is_inside.false in
+    let outside : occurs c.in-Some.name (put_typ (at (solved c.loop-pairs.es)) c.in-Some.typ) ≡ false = sym c.in_ok-occurs.ensures.ok ∙ c.if-branch.false in
     subst (λ es. Going c.args.es.now es c.args.a.now c.args.b.now c.next.new.pairs.items) (sym c.in_ok-push.ensures.ok)
     (going-on c.args.es.now c.loop-pairs.es c.args.a.now c.args.b.now c.loop-pairs.pairs.items c.next.new.pairs.items c.in-Some.name c.in-Some.typ
     c.loop-pairs.invariant step outside)
@@ -35,7 +35,7 @@ pub loop-pairs-smaller : goal.loop-pairs-smaller
 loop-pairs-smaller c =
     let step : IsStep c.loop-pairs.es c.loop-pairs.pairs.items c.next.new.pairs.items (Some (c.in-Some.name, c.in-Some.typ)) =
     subst (IsStep c.loop-pairs.es c.loop-pairs.pairs.items c.next.new.pairs.items) c.in-Some.is c.in_ok-name.ensures.step in
-    let outside : occurs c.in-Some.name (put_typ (at (solved c.loop-pairs.es)) c.in-Some.typ) ≡ false = sym c.is_inside.ensures ∙ c.if-is_inside.false in
+    let outside : occurs c.in-Some.name (put_typ (at (solved c.loop-pairs.es)) c.in-Some.typ) ≡ false = sym c.in_ok-occurs.ensures.ok ∙ c.if-branch.false in
     subst (λ es. left_to_go c.args.a.now c.args.b.now c.args.es.now es < left_to_go c.args.a.now c.args.b.now c.args.es.now c.loop-pairs.es) (sym c.in_ok-push.ensures.ok)
     (fewer-turns c.args.es.now c.loop-pairs.es c.args.a.now c.args.b.now c.loop-pairs.pairs.items c.next.new.pairs.items c.in-Some.name c.in-Some.typ
     (going-on c.args.es.now c.loop-pairs.es c.args.a.now c.args.b.now c.loop-pairs.pairs.items c.next.new.pairs.items c.in-Some.name c.in-Some.typ

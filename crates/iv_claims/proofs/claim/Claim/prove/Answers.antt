@@ -1,4 +1,4 @@
-use Rattle.std.proofs.Common.{◌≡◌, [], refl, sym, ap, ◌∙◌}
+use Rattle.std.proofs.Common.{◌≡◌, [], sym, ap, ◌∙◌}
 use Rattle.iv_term.specs.declared.term.Term.TheBlock.{Nil}
 use Rattle.iv_rules.specs.Rules.{axioms_of}
 use Rattle.iv_claims.specs.Statement.{statement_of, free_var, is_solved}

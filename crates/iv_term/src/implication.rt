@@ -1,6 +1,6 @@
 ghost use Rattle.std.specs.Prelude.{◌≡◌, IfOk, IfErr, IsTrue, ◌↔◌, codes};
 ghost use Rattle.iv_term.specs.Typ.{prop, fun, ty_cons};
-ghost use Rattle.iv_term.specs.Term.{imp, imp_head, implies, is_nil, is_one, are_two, first_or, rest_of, antecedent, consequent, IsImplication, IsProposition, IsHeadOfProposition, AreTwoPropositions, IsOneProposition};
+ghost use Rattle.iv_term.specs.Term.{imp, imp_head, implies, is_nil, is_one, are_two, first_or, rest_of, antecedent, consequent, IsImplication};
 ghost use Rattle.iv_term.specs.declared.want.Want.TheVariants.{Memory};
 ghost use Rattle.iv_term.specs.declared.typ.Typ.TheBlock.{Nil};
 ghost use Rattle.iv_term.specs.declared.term.Term.TheBlock.{Nil as no_terms};
@@ -167,43 +167,6 @@ impl Terms {
             Terms::Cons(_first, _rest) => false,
         }
     }
-
-    /// Whether a head makes a proposition with these arguments.
-    #[cycle(is_proposition)]
-    fn make_proposition(&self, h: &Head) -> bool
-        ensures { IsTrue result ↔ IsHeadOfProposition h.now (self.now ≡ no_terms) (AreTwoPropositions self.now) }
-    {
-        match h {
-            Head::Free(_x, a) => a.is_prop() && self.is_nil(),
-            Head::Schematic(_x, a) => a.is_prop() && self.is_nil(),
-            Head::Const(c, a) => is_implication(c, a) && self.are_two_propositions(),
-            Head::Bound(_i) => false,
-        }
-    }
-
-    /// Whether it is two propositions.
-    #[cycle(is_proposition)]
-    fn are_two_propositions(&self) -> bool
-        ensures { IsTrue result ↔ AreTwoPropositions self.now }
-    {
-        match self {
-            Terms::Nil => false,
-            Terms::Cons(first, rest) => {
-                first.get().is_proposition() && rest.get().is_one_proposition()
-            }
-        }
-    }
-
-    /// Whether it is one proposition.
-    #[cycle(is_proposition)]
-    fn is_one_proposition(&self) -> bool
-        ensures { IsTrue result ↔ IsOneProposition self.now }
-    {
-        match self {
-            Terms::Nil => false,
-            Terms::Cons(first, rest) => first.get().is_proposition() && rest.get().is_nil(),
-        }
-    }
 }
 
 impl Term {
@@ -247,18 +210,6 @@ impl Term {
         match self {
             Term::Abs(_a, _b) => self,
             Term::Spine(_h, ts) => { ts.rest().first_or(self) }
-        }
-    }
-
-    /// Whether it is a proposition: a variable of type `prop`, or an implication between propositions.
-    /// Takes no memory.
-    #[cycle(is_proposition)]
-    pub fn is_proposition(&self) -> bool
-        ensures { IsTrue result ↔ IsProposition self.now }
-    {
-        match self {
-            Term::Abs(_a, _b) => false,
-            Term::Spine(h, ts) => ts.make_proposition(h),
         }
     }
 }
