@@ -137,10 +137,10 @@ def main():
             if FILES.index(f) < k:
                 body = re.sub(r'(?<![\w.])%s (?=[\w(])' % name, name + ' law ', body)
         text = '-- From the forms back to the table. Written by tools/outer_back.py from tools/back.txt.\n'
-        text += M.imports(body).replace('specs.declared.part.Part.TheVariants as P\n', 'specs.declared.part.Part.TheVariants as P\nuse Rattle.iv_gram.specs.declared.part.Part.{Part}\n').replace('{◌≡◌, List', '{◌≡◌, Bool, true, false, ℕ, List')
+        text += M.imports(body).replace('specs.declared.part.Part.TheVariants as P\n', 'specs.declared.part.Part.TheVariants as P\nuse Rattle.iv_recogniser.specs.declared.part.Part.{Part}\n').replace('{◌≡◌, List', '{◌≡◌, Bool, true, false, ℕ, List')
         text += 'use Rattle.std.specs.Prelude.{Option}\nuse Rattle.iv_lex.specs.declared.cutting.Token.{Token}\n'
         text += ''.join(l + '\n' for l in F.imports(body) if ' as ' not in l)
-        text += 'use Rattle.iv_gram.specs.declared.class.Class.{Class}\nuse Rattle.iv_gram.specs.Table.{forms}\nuse Rattle.iv_gram.specs.Spell.{Spells, word, part}\n'
+        text += 'use Rattle.iv_recogniser.specs.declared.class.Class.{Class}\nuse Rattle.iv_recogniser.specs.Table.{forms}\nuse Rattle.iv_recogniser.specs.Spell.{Spells, word, part}\n'
         text += M.uses(body, BY, 'Rattle.iv_forms.proofs.Splits')
         text += 'use Rattle.iv_forms.proofs.Splits.{S}\nuse Rattle.iv_forms.proofs.Means.{Lacks}\n'
         for f2 in FILES[:k]:

@@ -195,7 +195,7 @@ def write():
         head = '-- %s: what tokens are read as which value. `IsR v ts us`: the tokens ts begin with the form R of the value v, and us stand behind it.\n-- After the outer syntax of Isabelle\'s Reference Manual, in a profile of this project. Written by tools/outer_forms.py from tools/readings.txt.\n' % f['about']
         head += 'use Rattle.std.specs.Prelude.{◌≡◌, ℕ, List, [], ◌∷◌, Option, Some, None}\n'
         head += 'use Rattle.iv_lex.specs.declared.cutting.Token.{Token}\n'
-        head += 'use Rattle.iv_gram.specs.declared.class.Class.TheVariants as class\nuse Rattle.iv_gram.specs.declared.class.Sort.TheVariants as sort\n'
+        head += 'use Rattle.iv_recogniser.specs.declared.class.Class.TheVariants as class\nuse Rattle.iv_recogniser.specs.declared.class.Sort.TheVariants as sort\n'
         head += '\n'.join(imports(body)) + '\n'
         head += 'use Rattle.iv_forms.specs.declared.lexeme.Lexeme.{Lexeme}\nuse Rattle.iv_forms.specs.Lexeme.{Is, IsA, AreAll}\n'
         for m, names in f['uses']:

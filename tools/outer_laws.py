@@ -1,5 +1,5 @@
 #!/usr/bin/env python3
-"""Writes three laws of each form of `readings.txt`, for its reader in `iv_facts`, `iv_methods` or `iv_read`: how many tokens
+"""Writes three laws of each form of `readings.txt`, for its reader in `iv_facts`, `iv_readmethod` or `iv_read`: how many tokens
 it takes, with which it begins, and that what it leaves is among what it reads.
 
 Then `rt tidy` in the crates, which lays out.
@@ -11,7 +11,7 @@ import outer_forms as F
 
 HERE = os.path.dirname(os.path.abspath(__file__))
 # the crates of readers, the lowest first, each with the files of its forms
-CRATES = {'iv_facts': ['FactForm', 'PropForm'], 'iv_methods': ['MethodForm'], 'iv_read': ['CommandForm']}
+CRATES = {'iv_facts': ['FactForm', 'PropForm'], 'iv_readmethod': ['MethodForm'], 'iv_read': ['CommandForm']}
 # what the proofs of the last crate name
 ROOTS = {
     'Lengths': ['IsConst', 'IsEquation', 'IsAxiom', 'IsNoteGroup'],
@@ -169,7 +169,7 @@ def imports(f, body):
 LEXEMES = '''use Rattle.iv_lex.specs.declared.cutting.Token.{Token}
 use Rattle.iv_forms.specs.declared.lexeme.Lexeme.{Lexeme}
 use Rattle.iv_forms.specs.Lexeme.{AreAll, no_more, one_more}
-use Rattle.iv_gram.specs.declared.class.Sort.{Sort}
+use Rattle.iv_recogniser.specs.declared.class.Sort.{Sort}
 '''
 
 # each law: the first word of its names, how it is written, what it is about, what it uses, and the law of tokens of a set
@@ -183,8 +183,8 @@ len_AreAll (one_more a b) = omega (arith, len_AreAll b)
 '''),
     'Firsts': ('free', Forms.begin, 'With which tokens a form begins: none of a set that has none of its first ones.', '''use Rattle.std.proofs.Common.{◌≡◌, ℕ, true, false, List}
 use Rattle.std.specs.Prelude.{Option}
-''', '''use Rattle.iv_gram.specs.declared.class.Class.TheVariants as class
-use Rattle.iv_gram.specs.declared.class.Sort.TheVariants as sort
+''', '''use Rattle.iv_recogniser.specs.declared.class.Class.TheVariants as class
+use Rattle.iv_recogniser.specs.declared.class.Sort.TheVariants as sort
 use Rattle.iv_facts.specs.Found.{begins}
 use Rattle.iv_facts.specs.Laws.{clear}
 ''', '''

@@ -71,10 +71,10 @@ def uses(text, table, module):
 def imports(text):
     cons = constructors()
     out = 'use Rattle.std.proofs.Common.{◌≡◌, List, [], ◌∷◌, refl, subst, inl, inr}\n'
-    out += 'use Rattle.iv_gram.specs.declared.class.Class.TheVariants as class\nuse Rattle.iv_gram.specs.declared.class.Sort.TheVariants as sort\n'
-    out += 'use Rattle.iv_gram.specs.declared.part.Part.TheVariants as P\nuse Rattle.iv_gram.specs.declared.part.Symbol.{Symbol}\nuse Rattle.iv_gram.specs.declared.part.Symbol.TheVariants.{Goes}\n'
+    out += 'use Rattle.iv_recogniser.specs.declared.class.Class.TheVariants as class\nuse Rattle.iv_recogniser.specs.declared.class.Sort.TheVariants as sort\n'
+    out += 'use Rattle.iv_recogniser.specs.declared.part.Part.TheVariants as P\nuse Rattle.iv_recogniser.specs.declared.part.Symbol.{Symbol}\nuse Rattle.iv_recogniser.specs.declared.part.Symbol.TheVariants.{Goes}\n'
     words = [T.const(n) for n in list(T.SORTS) + T.CLASSES]
-    out += uses(text, words, 'Rattle.iv_gram.specs.Table')
+    out += uses(text, words, 'Rattle.iv_recogniser.specs.Table')
     out += ''.join(l + '\n' for l in F.imports(text) if ' as ' in l)
     out += 'use Rattle.iv_forms.specs.declared.lexeme.Lexeme.{Lexeme}\n'
     for file in ['Lexeme', 'FactForm', 'PropForm', 'MethodForm', 'CommandForm']:
@@ -117,13 +117,13 @@ def write():
                 place = 'inr (%s)' % place
             body += '  part_%s r (%s) m = elim e [ ]\n\n' % (T.snake(p).lower(), place.replace('inl e', 'e'))
         text = HEAD + '-- What the rows of the table mean.\n' + imports(body)
-        text += 'use Rattle.iv_gram.specs.Table.{forms}\nuse Rattle.iv_gram.specs.Spell.{IsIn}\n\n' + body.rstrip('\n') + '\n'
+        text += 'use Rattle.iv_recogniser.specs.Table.{forms}\nuse Rattle.iv_recogniser.specs.Spell.{IsIn}\n\n' + body.rstrip('\n') + '\n'
         save('proofs/%s.antt' % file, text)
     body = 'module _ (law : Law) where\n  pub closed : (p : Part) (r : List Symbol) → IsIn r (forms p) → {ts us : List Lexeme} → Means r ts us → MeansPart p ts us\n'
     for p in parts:
         body += '  closed P.%s r i m = part_%s law r i m\n' % (p, T.snake(p).lower())
-    text = HEAD + '-- What a row of a part means, the part means.\n' + imports(body).replace('specs.declared.part.Part.TheVariants as P\n', 'specs.declared.part.Part.TheVariants as P\nuse Rattle.iv_gram.specs.declared.part.Part.{Part}\n')
-    text += 'use Rattle.iv_gram.specs.Table.{forms}\nuse Rattle.iv_gram.specs.Spell.{IsIn}\n'
+    text = HEAD + '-- What a row of a part means, the part means.\n' + imports(body).replace('specs.declared.part.Part.TheVariants as P\n', 'specs.declared.part.Part.TheVariants as P\nuse Rattle.iv_recogniser.specs.declared.part.Part.{Part}\n')
+    text += 'use Rattle.iv_recogniser.specs.Table.{forms}\nuse Rattle.iv_recogniser.specs.Spell.{IsIn}\n'
     for file, a, b in GROUPS:
         text += 'use Rattle.iv_forms.proofs.%s.{%s}\n' % (file, ', '.join('part_' + T.snake(p).lower() for p in parts[parts.index(a):parts.index(b) + 1]))
     save('proofs/Closed.antt', text + '\n' + body)

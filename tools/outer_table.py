@@ -2,7 +2,7 @@
 """Keeps the table of the outer syntax: reads `forms.txt`, checks it, and writes what repeats.
 
     outer_table.py check            follow sets, samples and conflicts
-    outer_table.py write            the generated files of `iv_gram`
+    outer_table.py write            the generated files of `iv_recogniser`
 
 Then `rt tidy` in the crate, which drops imports and lays out.
 """
@@ -253,7 +253,7 @@ SORT_DOCS = {
 
 def write_class(t):
     docs = doc_of()
-    out = HEAD + "//! The classes of tokens, and sets of them.\nghost use Rattle.std.specs.Prelude.{◌≡◌};\nghost use Rattle.std.specs.List.{list_any};\nghost use Rattle.iv_gram.specs.Class.{has, same_class};\n\n"
+    out = HEAD + "//! The classes of tokens, and sets of them.\nghost use Rattle.std.specs.Prelude.{◌≡◌};\nghost use Rattle.std.specs.List.{list_any};\nghost use Rattle.iv_recogniser.specs.Class.{has, same_class};\n\n"
     out += "/// The class of a token: all that the forms ask of it.\n#[derive(Clone, Copy, Debug, PartialEq, Eq)]\npub enum Class {\n"
     for c in CLASSES:
         out += "    /// %s\n    %s,\n" % (docs[c], c)
@@ -291,12 +291,12 @@ impl Sort {
     for n in SORTS:
         out += "            Sort::%s => class.is_in(%s),\n" % (n, const(n))
     out += "        }\n    }\n}\n"
-    save('iv_gram/src/class.rt', out)
+    save('iv_recogniser/src/class.rt', out)
     # specs
     out = HEAD2 + "-- Classes of tokens and sets of them. Of this project.\n"
     out += "use Rattle.std.specs.Prelude.{ℕ, Bool, List, [], ◌∷◌, ◌==◌}\nuse Rattle.std.specs.List.{list_any}\n"
-    out += "use Rattle.iv_gram.specs.declared.class.Class.{Class}\nuse Rattle.iv_gram.specs.declared.class.Class.TheVariants.{%s}\n" % ', '.join(CLASSES)
-    out += "use Rattle.iv_gram.specs.declared.class.Sort.{Sort}\nuse Rattle.iv_gram.specs.declared.class.Sort.TheVariants as sort\n\n"
+    out += "use Rattle.iv_recogniser.specs.declared.class.Class.{Class}\nuse Rattle.iv_recogniser.specs.declared.class.Class.TheVariants.{%s}\n" % ', '.join(CLASSES)
+    out += "use Rattle.iv_recogniser.specs.declared.class.Sort.{Sort}\nuse Rattle.iv_recogniser.specs.declared.class.Sort.TheVariants as sort\n\n"
     out += "-- the number of a class\nabbrev pub number : Class → ℕ\n"
     for i, c in enumerate(CLASSES):
         out += "number %s = %d\n" % (c, i)
@@ -310,7 +310,7 @@ impl Sort {
     out += "\n-- whether a set has a class\nabbrev pub has : Sort → Class → Bool\nhas (sort.Only only) c = same_class c only\n"
     for n in SORTS:
         out += "has sort.%s c = list_any (same_class c) %s\n" % (n, snake(n).lower() + '_classes')
-    save('iv_gram/specs/Class.antt', out)
+    save('iv_recogniser/specs/Class.antt', out)
 
 
 def described(rows):
@@ -331,8 +331,8 @@ def write_table(t):
     called = [p for p in parts if any(('part', p) in r for rows in t.parts.values() for r in rows)]
     for p in called:
         out += "pub(crate) const %s: Symbol = Symbol::Goes(Part::%s);\n" % (const(p), p)
-    save('iv_gram/src/part.rt', out)
-    out = HEAD + "//! The table of forms: each part with its rows.\nghost use Rattle.std.specs.Prelude.{◌≡◌};\nghost use Rattle.iv_gram.specs.Table.{forms, plain};\n\n"
+    save('iv_recogniser/src/part.rt', out)
+    out = HEAD + "//! The table of forms: each part with its rows.\nghost use Rattle.std.specs.Prelude.{◌≡◌};\nghost use Rattle.iv_recogniser.specs.Table.{forms, plain};\n\n"
     out += "use crate::part::{%s, Part, Symbol};\n\n" % ', '.join(sorted([const(p) for p in called] + ['W_' + const(w) for w in words]))
     for p, rows in t.parts.items():
         rs = ', '.join('&[' + ', '.join(('W_' if k == 'word' else '') + const(n) for k, n in r) + ']' for r in rows)
@@ -341,13 +341,13 @@ def write_table(t):
     for p in parts:
         out += "        Part::%s => %s_ROWS,\n" % (p, const(p))
     out += "    }\n}\n"
-    save('iv_gram/src/table.rt', out)
+    save('iv_recogniser/src/table.rt', out)
     out = HEAD2 + "-- The table of forms. After the outer syntax of Isabelle's Reference Manual, in a profile of this project.\n"
     out += "use Rattle.std.specs.Prelude.{List, [], ◌∷◌, map}\nuse Rattle.std.specs.Borrow.{Bor}\n"
-    out += "use Rattle.iv_gram.specs.declared.class.Class.{Class}\nuse Rattle.iv_gram.specs.declared.class.Class.TheVariants as class\n"
-    out += "use Rattle.iv_gram.specs.declared.class.Sort.TheVariants as sort\n"
-    out += "use Rattle.iv_gram.specs.declared.part.Part.{Part}\nuse Rattle.iv_gram.specs.declared.part.Part.TheVariants.{%s}\n" % ', '.join(parts)
-    out += "use Rattle.iv_gram.specs.declared.part.Symbol.{Symbol}\nuse Rattle.iv_gram.specs.declared.part.Symbol.TheVariants.{Word, Goes}\n\n"
+    out += "use Rattle.iv_recogniser.specs.declared.class.Class.{Class}\nuse Rattle.iv_recogniser.specs.declared.class.Class.TheVariants as class\n"
+    out += "use Rattle.iv_recogniser.specs.declared.class.Sort.TheVariants as sort\n"
+    out += "use Rattle.iv_recogniser.specs.declared.part.Part.{Part}\nuse Rattle.iv_recogniser.specs.declared.part.Part.TheVariants.{%s}\n" % ', '.join(parts)
+    out += "use Rattle.iv_recogniser.specs.declared.part.Symbol.{Symbol}\nuse Rattle.iv_recogniser.specs.declared.part.Symbol.TheVariants.{Word, Goes}\n\n"
     for w in words:
         out += "abbrev pub %s : Symbol\n%s = Word %s\n" % (const(w), const(w), 'sort.' + w if w in SORTS else '(sort.Only class.%s)' % w)
     out += "\n-- the rows of each part\nabbrev pub forms : Part → List (List Symbol)\n"
@@ -358,18 +358,18 @@ def write_table(t):
             out += "    (%s) ∷\n" % (cells + ' ∷ []' if r else '[]')
         out += "    []\n"
     out += "\n-- the rows without their references\nabbrev pub plain : List (Bor (List Symbol)) → List (List Symbol)\nplain rows = map (λ r. r.now) rows\n"
-    save('iv_gram/specs/Table.antt', out)
+    save('iv_recogniser/specs/Table.antt', out)
 
 
 
 def write_proofs(t):
     parts = list(t.parts)
-    imp = "use Rattle.iv_gram.specs.declared.class.Class.{Class}\nuse Rattle.iv_gram.specs.declared.class.Class.TheVariants as class\n"
-    pimp = "use Rattle.iv_gram.specs.declared.part.Part.{Part}\nuse Rattle.iv_gram.specs.declared.part.Part.TheVariants as part\n"
+    imp = "use Rattle.iv_recogniser.specs.declared.class.Class.{Class}\nuse Rattle.iv_recogniser.specs.declared.class.Class.TheVariants as class\n"
+    pimp = "use Rattle.iv_recogniser.specs.declared.part.Part.{Part}\nuse Rattle.iv_recogniser.specs.declared.part.Part.TheVariants as part\n"
     # classes by their numbers
     out = HEAD2 + "-- Each class by its number.\nuse Rattle.std.proofs.Common.{◌≡◌, ℕ, List, refl}\nuse Rattle.std.specs.Prelude.{Some}\n" + imp
-    out += "use Rattle.iv_gram.specs.declared.class.Sort.{Sort}\nuse Rattle.iv_gram.specs.declared.class.Sort.TheVariants as sort\n"
-    out += "use denote.Enum.Declared.{tag_of}\nuse Rattle.iv_gram.specs.contracts.class.Class.{the_type}\nuse Rattle.iv_gram.specs.Class.{number, classes, members, has}\nuse Rattle.iv_gram.proofs.Sets.{nth, Among, has_only}\n\n"
+    out += "use Rattle.iv_recogniser.specs.declared.class.Sort.{Sort}\nuse Rattle.iv_recogniser.specs.declared.class.Sort.TheVariants as sort\n"
+    out += "use denote.Enum.Declared.{tag_of}\nuse Rattle.iv_recogniser.specs.contracts.class.Class.{the_type}\nuse Rattle.iv_recogniser.specs.Class.{number, classes, members, has}\nuse Rattle.iv_recogniser.proofs.Sets.{nth, Among, has_only}\n\n"
     out += "-- the number of a variant in the code\npub tag_is : (c : Class) → tag_of the_type c ≡ number c\n"
     for c in CLASSES:
         out += "tag_is class.%s = refl\n" % c
@@ -381,14 +381,14 @@ def write_proofs(t):
     out += "has_members (sort.Only o) c h = has_only o c h\n"
     for n in SORTS:
         out += "has_members sort.%s c h = h\n" % n
-    save('iv_gram/proofs/Numbers.antt', out)
+    save('iv_recogniser/proofs/Numbers.antt', out)
     # a member of each set
     out = HEAD2 + "-- A member of each set of classes.\nuse Rattle.std.proofs.Common.{◌≡◌, ℕ, Bool, refl, true}\nuse Rattle.std.proofs.lemmas.Bool.{eq-eqb}\n" + imp
-    out += "use Rattle.iv_gram.specs.declared.class.Sort.{Sort}\nuse Rattle.iv_gram.specs.declared.class.Sort.TheVariants as sort\nuse Rattle.iv_gram.specs.Class.{has, number}\n\n"
+    out += "use Rattle.iv_recogniser.specs.declared.class.Sort.{Sort}\nuse Rattle.iv_recogniser.specs.declared.class.Sort.TheVariants as sort\nuse Rattle.iv_recogniser.specs.Class.{has, number}\n\n"
     out += "pub some_of : (k : Sort) → (c : Class) × (has k c ≡ true)\nsome_of (sort.Only o) = (o, eq-eqb (number o) (number o) refl)\n"
     for n, ms in SORTS.items():
         out += "some_of sort.%s = (class.%s, refl)\n" % (n, ms[0])
-    save('iv_gram/proofs/Some.antt', out)
+    save('iv_recogniser/proofs/Some.antt', out)
     # follow sets and samples
     out = HEAD2 + "-- What may follow each part, and some classes that each part spells.\nuse Rattle.std.proofs.Common.{List, [], ◌∷◌}\n" + imp + pimp + '\n'
     out += "-- what may follow a part\npub abbrev follow : Part → List Class\n".replace('pub abbrev', 'abbrev pub')
@@ -397,10 +397,10 @@ def write_proofs(t):
     out += "\n-- classes that a part spells\nabbrev pub sample : Part → List Class\n"
     for p in parts:
         out += "sample part.%s = %s\n" % (p, ' ∷ '.join(['class.' + c for c in t.sample[p]] + ['[]']))
-    save('iv_gram/proofs/Follow.antt', out)
+    save('iv_recogniser/proofs/Follow.antt', out)
     # the checks
     out = HEAD2 + "-- The table is checked, part by part.\nuse Rattle.std.proofs.Common.{◌≡◌, refl, true}\n" + pimp
-    out += "use Rattle.iv_gram.specs.Table.{forms}\nuse Rattle.iv_gram.proofs.Follow.{follow, sample}\nuse Rattle.iv_gram.proofs.Checks.{is_good, is_sampled}\n"
+    out += "use Rattle.iv_recogniser.specs.Table.{forms}\nuse Rattle.iv_recogniser.proofs.Follow.{follow, sample}\nuse Rattle.iv_recogniser.proofs.Checks.{is_good, is_sampled}\n"
     for p in parts:
         n = snake(p).lower()
         out += "\ngood_%s : is_good forms follow part.%s ≡ true\ngood_%s = refl\nsampled_%s : is_sampled forms sample part.%s ≡ true\nsampled_%s = refl\n" % (n, p, n, n, p, n)
@@ -410,7 +410,7 @@ def write_proofs(t):
     out += "\npub sampled : (p : Part) → is_sampled forms sample p ≡ true\n"
     for p in parts:
         out += "sampled part.%s = sampled_%s\n" % (p, snake(p).lower())
-    save('iv_gram/proofs/Checked.antt', out)
+    save('iv_recogniser/proofs/Checked.antt', out)
 
 
 def write(t):

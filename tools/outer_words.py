@@ -22,9 +22,9 @@ def quoted(w):
 
 
 def main():
-    rs = '// Written by tools/outer_words.py. Do not edit.\n//! The words of the outer syntax with their classes.\nghost use Rattle.std.specs.Prelude.{◌≡◌};\nghost use Rattle.iv_outer.specs.Words.{%s, plain};\n\nuse iv_gram::Class;\n\n' % ', '.join(t[1] for t in TABLES)
+    rs = '// Written by tools/outer_words.py. Do not edit.\n//! The words of the outer syntax with their classes.\nghost use Rattle.std.specs.Prelude.{◌≡◌};\nghost use Rattle.iv_outer.specs.Words.{%s, plain};\n\nuse iv_recogniser::Class;\n\n' % ', '.join(t[1] for t in TABLES)
     antt = '-- The words of the outer syntax with their classes. After the outer syntax of Isabelle\'s Reference Manual, in a profile of this project.\n-- Written by tools/outer_words.py.\n'
-    antt += 'use Rattle.std.specs.Prelude.{ℕ, List, [], ◌∷◌, map, codes}\nuse Rattle.std.specs.Borrow.{Bor}\nuse Rattle.iv_gram.specs.declared.class.Class.{Class}\nuse Rattle.iv_gram.specs.declared.class.Class.TheVariants as class\nuse Rattle.iv_outer.specs.declared.words.Word.{Word}\n\n'
+    antt += 'use Rattle.std.specs.Prelude.{ℕ, List, [], ◌∷◌, map, codes}\nuse Rattle.std.specs.Borrow.{Bor}\nuse Rattle.iv_recogniser.specs.declared.class.Class.{Class}\nuse Rattle.iv_recogniser.specs.declared.class.Class.TheVariants as class\nuse Rattle.iv_outer.specs.declared.words.Word.{Word}\n\n'
     antt += '-- a text with its class\nabbrev pub Entry : Type 0\nEntry = List ℕ × Class\n\n-- the entries without their references\nabbrev pub plain : List Word → List Entry\nplain ws = map (λ w. (w.text.now, w.class)) ws\n'
     rs += '/// A text with its class.\n#[derive(Clone, Copy)]\npub struct Word {\n    /// The text.\n    pub text: &\'static str,\n    /// Its class.\n    pub class: Class,\n}\n\n'
     for const, name, about, rows in TABLES:

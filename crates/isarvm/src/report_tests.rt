@@ -1,6 +1,5 @@
 use crate::refusal::{Mode, Refusal};
 use crate::report::{refusal_line, theorem_line};
-use iv_report::text::encoded;
 use iv_term::{Head, Name, Term, Terms, Text, Typ};
 use iv_text::Pos;
 use std::alloc::Global;
@@ -39,7 +38,7 @@ fn imp(rt: &impl Abort, alloc: Global, a: &Term, b: &Term) -> Term {
 
 /// Whether these are the bytes of a text.
 fn is_spelt(rt: &impl Abort, alloc: Global, line: &Text, expected: &str) -> bool {
-    let bytes = encoded(alloc, line).expect(rt, "memory");
+    let bytes = line.to_utf8(alloc).expect(rt, "memory");
     bytes.as_slice() == expected.as_bytes()
 }
 

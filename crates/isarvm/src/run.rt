@@ -24,7 +24,6 @@ use crate::status::Status;
 use iv_io::{Failed, ReadError, Sink, Source, read_all, write_all};
 use iv_kernel::{NamedThm, Theorems};
 use iv_lex::letters::rest_from;
-use iv_report::text::encoded;
 use iv_report::{Cursor, LIMIT};
 use iv_term::{Mem, Want};
 use iv_words::{BadWords, Task, task_given};
@@ -77,7 +76,7 @@ pub fn theorem_bytes(alloc: Global, named: &[NamedThm]) -> Mem<Vec<u8>>
     let mut bytes = Vec::new(alloc);
     for one in named {
         let line = theorem_line(alloc, one.name.as_ref(), one.thm.prop())?;
-        let line = encoded(alloc, &line)?;
+        let line = line.to_utf8(alloc)?;
         bytes.extend_from_slice(line.as_slice())?;
     }
     Ok(bytes)
@@ -105,7 +104,7 @@ pub fn refusal_bytes(
     let mut ahead = *cursor;
     let own = ahead.advance(document, refusal.place_or(command.at));
     let text = refusal_line(alloc, at, &command.word, own, refusal)?;
-    encoded(alloc, &text)
+    text.to_utf8(alloc)
 }
 
 /// Executes a command and says what is reported of it. Fails where memory runs out; the state is then that
@@ -253,7 +252,7 @@ fn count_bytes(alloc: Global, vm: &Vm, refused: u64) -> Mem<Vec<u8>>
 {
     let theorems = vm.theorems().len() as u64;
     let line = count_line(alloc, theorems, refused, vm.is_ended())?;
-    encoded(alloc, &line)
+    line.to_utf8(alloc)
 }
 
 /// Executes commands in order and writes one line of counts behind them. Says whether all were accepted. Stops where

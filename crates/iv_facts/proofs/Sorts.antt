@@ -2,9 +2,9 @@
 use Rattle.std.proofs.Common.{◌≡◌, Bool, true, false, refl}
 use Rattle.std.specs.Prelude.{not}
 use Rattle.std.specs.List.{list_all}
-use Rattle.iv_gram.specs.declared.class.Class.{Class}
-use Rattle.iv_gram.specs.declared.class.Sort.{Sort}
-use Rattle.iv_gram.specs.Class.{has, members}
+use Rattle.iv_recogniser.specs.declared.class.Class.{Class}
+use Rattle.iv_recogniser.specs.declared.class.Sort.{Sort}
+use Rattle.iv_recogniser.specs.Class.{has, members}
 use Rattle.iv_forms.specs.declared.lexeme.Lexeme.{Lexeme}
 use Rattle.iv_forms.specs.Lexeme.{Is}
 use Rattle.iv_facts.specs.Laws.{clear}

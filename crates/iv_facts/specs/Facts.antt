@@ -1,7 +1,7 @@
 -- How selections, attributes and facts are read. Of this project.
 use Rattle.std.specs.Prelude.{ℕ, zero, suc, Bool, not, ◌&&◌, ◌||◌, List, [], ◌∷◌, if◌then◌else◌}
-use Rattle.iv_gram.specs.declared.class.Class.TheVariants as class
-use Rattle.iv_gram.specs.declared.class.Sort.TheVariants as sort
+use Rattle.iv_recogniser.specs.declared.class.Class.TheVariants as class
+use Rattle.iv_recogniser.specs.declared.class.Sort.TheVariants as sort
 use Rattle.iv_forms.specs.declared.fact.Sel.{Sel}
 use Rattle.iv_forms.specs.declared.fact.Sel.TheVariants as VSel
 use Rattle.iv_forms.specs.declared.fact.Mark.{Mark}

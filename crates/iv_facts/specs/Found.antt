@@ -1,8 +1,8 @@
 -- What a reader of tokens finds, by the next tokens. Of this project.
 use Rattle.std.specs.Prelude.{◌≡◌, ◌⊎◌, List, [], ◌∷◌, ◌++◌, Bool, false, Option, Some, None, if◌then◌else◌}
 use Rattle.iv_text.specs.declared.Pos.{Pos}
-use Rattle.iv_gram.specs.declared.class.Sort.{Sort}
-use Rattle.iv_gram.specs.Class.{has}
+use Rattle.iv_recogniser.specs.declared.class.Sort.{Sort}
+use Rattle.iv_recogniser.specs.Class.{has}
 use Rattle.iv_forms.specs.declared.lexeme.Lexeme.{Lexeme}
 use Rattle.iv_facts.specs.declared.stop.Stop.{Stop}
 use Rattle.iv_facts.specs.declared.stop.Stop.TheVariants as stop

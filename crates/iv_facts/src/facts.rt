@@ -1,14 +1,14 @@
 //! Selections, attributes and facts.
 ghost use Rattle.std.specs.Prelude.{◌≡◌, ◌&&◌, [], ◌∷◌, IfOk, IfErr};
-ghost use Rattle.iv_gram.specs.declared.class.Class.TheVariants as class;
-ghost use Rattle.iv_gram.specs.declared.class.Sort.TheVariants as sort;
+ghost use Rattle.iv_recogniser.specs.declared.class.Class.TheVariants as class;
+ghost use Rattle.iv_recogniser.specs.declared.class.Sort.TheVariants as sort;
 ghost use Rattle.iv_facts.specs.Found.{got, IsStop, begins, behind, many};
 ghost use Rattle.iv_facts.specs.Facts.{sel, more_sels, sels, mark, term_place, goes_term_place, term_places, where_, more_wheres, wheres, named_att, place_with, goes_place, places_with, att_with, more_atts_with, atts_with, inside, opt_atts, fact, a_fact, goes_fact, next_fact, more_facts, facts};
 
 use crate::stop::Stop;
 use crate::tokens::{begins, behind, copied, one, place, skip, stop_at};
 use iv_forms::{Att, Fact, Items, Lexeme, Mark, Place, Sel, TermPlace, Where};
-use iv_gram::{Class, Sort};
+use iv_recogniser::{Class, Sort};
 use iv_shared::Shared;
 use std::alloc::Global;
 

@@ -1,7 +1,7 @@
 use crate::facts::facts;
 use crate::samples::{lexemes, nested};
 use crate::stop::Stop;
-use iv_gram::Class;
+use iv_recogniser::Class;
 use iv_text::Pos;
 use std::test::Fail;
 

@@ -1,7 +1,7 @@
 //! The laws of the readers, for those above, each as the contract of a function that does nothing.
 ghost use Rattle.iv_facts.specs.Laws.{SetsAreApart, FactsAreRead, PropsAreRead, NamesAreRead, FormsAreShort, FormsBegin, PlacesAreKept, DeepFactsArePlaced};
 
-use iv_gram::laws::sets_are_their_members;
+use iv_recogniser::laws::sets_are_their_members;
 
 /// A set whose members are all in another is within it, and one that has none of its members has no class in common with it.
 pub fn sets_are_apart()

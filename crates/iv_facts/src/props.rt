@@ -7,8 +7,8 @@ use crate::facts::{LIMIT, opt_atts};
 use crate::stop::Stop;
 use crate::tokens::{begins, behind, copied, one, skip, stop_at};
 use iv_forms::{Att, Claim, Group, Items, Label, Lexeme, Prop, VarGroup};
-use iv_gram::{Class, Sort};
 use iv_lex::Token;
+use iv_recogniser::{Class, Sort};
 use std::alloc::Global;
 
 /// A name and its attributes, as in front of `=`.

@@ -1,6 +1,6 @@
 use crate::props::{claim, opt_for, props};
 use crate::samples::lexemes;
-use iv_gram::Class;
+use iv_recogniser::Class;
 use std::test::Fail;
 
 #[test]

@@ -1,7 +1,7 @@
 //! Tokens for the tests.
 use iv_forms::Lexeme;
-use iv_gram::Class;
 use iv_lex::{Kind, Token};
+use iv_recogniser::Class;
 use iv_term::Text;
 use iv_text::Pos;
 use std::test::Fail;

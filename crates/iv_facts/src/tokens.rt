@@ -5,8 +5,8 @@ ghost use Rattle.iv_facts.specs.Found.{got, IsStop, begins, behind, one, place_o
 
 use crate::stop::Stop;
 use iv_forms::Lexeme;
-use iv_gram::Sort;
 use iv_lex::Token;
+use iv_recogniser::Sort;
 use iv_term::Mem;
 use iv_text::Pos;
 

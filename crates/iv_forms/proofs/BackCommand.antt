@@ -1,11 +1,11 @@
 -- From the forms back to the table. Written by tools/outer_back.py from tools/back.txt.
 use Rattle.std.proofs.Common.{Bool, true, false, ℕ, List, [], ◌∷◌, refl, inl, inr}
-use Rattle.iv_gram.specs.declared.class.Sort.TheVariants as sort
-use Rattle.iv_gram.specs.declared.part.Part.TheVariants as P
-use Rattle.iv_gram.specs.declared.part.Part.{Part}
-use Rattle.iv_gram.specs.declared.part.Symbol.{Symbol}
-use Rattle.iv_gram.specs.declared.part.Symbol.TheVariants.{Goes}
-use Rattle.iv_gram.specs.Table.{AND, ASSUMES, BINDER, BINDING, CLOSE, COLON, COLONS, COMMA, DECLARES, EQUAL, FIXES, IDENTIFIER, INFIX, INFIXL, INFIXR, IS, JUDGING, LEFT, LONG, LOW, METHODS, NAME, NO_IDENT, NO_NAME, NUMERAL, OPEN, PLAIN, PREFIX, PRIORITY, RIGHT, SHOWS, TERM, TVAR, TYPE, USES, WHERE}
+use Rattle.iv_recogniser.specs.declared.class.Sort.TheVariants as sort
+use Rattle.iv_recogniser.specs.declared.part.Part.TheVariants as P
+use Rattle.iv_recogniser.specs.declared.part.Part.{Part}
+use Rattle.iv_recogniser.specs.declared.part.Symbol.{Symbol}
+use Rattle.iv_recogniser.specs.declared.part.Symbol.TheVariants.{Goes}
+use Rattle.iv_recogniser.specs.Table.{AND, ASSUMES, BINDER, BINDING, CLOSE, COLON, COLONS, COMMA, DECLARES, EQUAL, FIXES, IDENTIFIER, INFIX, INFIXL, INFIXR, IS, JUDGING, LEFT, LONG, LOW, METHODS, NAME, NO_IDENT, NO_NAME, NUMERAL, OPEN, PLAIN, PREFIX, PRIORITY, RIGHT, SHOWS, TERM, TVAR, TYPE, USES, WHERE}
 use Rattle.iv_forms.specs.declared.lexeme.Lexeme.{Lexeme}
 use Rattle.iv_forms.specs.Lexeme.{AreAll, Is, no_more, one_more}
 use Rattle.iv_forms.specs.FactForm.{IsMoreFacts, IsOptAtts, IsSels, and_facts, atts, fact, facts, more_facts, no_atts, no_more_facts, no_sels, sels, some_atts}
@@ -29,9 +29,9 @@ use Rattle.iv_forms.specs.declared.command.Parts.{Parts}
 use Rattle.iv_forms.specs.declared.command.NoteGroup.{NoteGroup}
 use Rattle.iv_forms.specs.declared.command.Equation.{Equation}
 use Rattle.iv_forms.specs.declared.command.Obtained.{Obtained}
-use Rattle.iv_gram.specs.declared.class.Class.{Class}
-use Rattle.iv_gram.specs.Table.{forms}
-use Rattle.iv_gram.specs.Spell.{Spells, word, part}
+use Rattle.iv_recogniser.specs.declared.class.Class.{Class}
+use Rattle.iv_recogniser.specs.Table.{forms}
+use Rattle.iv_recogniser.specs.Spell.{Spells, word, part}
 use Rattle.iv_forms.proofs.Splits.{by_ident, by_long, by_name, by_obtained}
 use Rattle.iv_forms.proofs.Splits.{S}
 use Rattle.iv_forms.proofs.Means.{Lacks}

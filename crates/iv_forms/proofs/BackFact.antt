@@ -1,10 +1,10 @@
 -- From the forms back to the table. Written by tools/outer_back.py from tools/back.txt.
 use Rattle.std.proofs.Common.{List, [], ◌∷◌, refl, inl, inr}
-use Rattle.iv_gram.specs.declared.class.Sort.TheVariants as sort
-use Rattle.iv_gram.specs.declared.part.Part.TheVariants as P
-use Rattle.iv_gram.specs.declared.part.Symbol.{Symbol}
-use Rattle.iv_gram.specs.declared.part.Symbol.TheVariants.{Goes}
-use Rattle.iv_gram.specs.Table.{AND, CLOSE, COMMA, DUMMY, EQUAL, IDENTIFIER, LEFT, MARK, MINUS, NAME, NUMERAL, OF_FACTS, OF_TERMS, OPEN, OTHER_NAME, RIGHT, TERM, THEN_FACT, WHERE}
+use Rattle.iv_recogniser.specs.declared.class.Sort.TheVariants as sort
+use Rattle.iv_recogniser.specs.declared.part.Part.TheVariants as P
+use Rattle.iv_recogniser.specs.declared.part.Symbol.{Symbol}
+use Rattle.iv_recogniser.specs.declared.part.Symbol.TheVariants.{Goes}
+use Rattle.iv_recogniser.specs.Table.{AND, CLOSE, COMMA, DUMMY, EQUAL, IDENTIFIER, LEFT, MARK, MINUS, NAME, NUMERAL, OF_FACTS, OF_TERMS, OPEN, OTHER_NAME, RIGHT, TERM, THEN_FACT, WHERE}
 use Rattle.iv_forms.specs.declared.lexeme.Lexeme.{Lexeme}
 use Rattle.iv_forms.specs.Lexeme.{AreAll, Is, no_more, one_more}
 use Rattle.iv_forms.specs.FactForm.{IsAtt, IsFact, IsFacts, IsMark, IsMoreAtts, IsMoreFacts, IsMoreSels, IsMoreWheres, IsOptAtts, IsPlaces, IsSel, IsSels, IsTermPlaces, and_facts, att_name, atts, fact, fact_given, fact_hole, facts, more_atts, more_facts, more_sels, more_wheres, no_atts, no_mark, no_more_atts, no_more_facts, no_more_sels, no_more_wheres, no_places, no_sels, no_term_places, of_facts, of_terms, one, places, range, sels, some_atts, strong, term_given, term_hole, term_places, then_fact, weak, where_are, where_is}
@@ -17,7 +17,7 @@ use Rattle.iv_forms.specs.declared.fact.TermPlace.{TermPlace}
 use Rattle.iv_forms.specs.declared.fact.Fact.{Fact}
 use Rattle.iv_forms.specs.declared.fact.Att.{Att}
 use Rattle.iv_forms.specs.declared.fact.Place.{Place}
-use Rattle.iv_gram.specs.Spell.{word, part}
+use Rattle.iv_recogniser.specs.Spell.{word, part}
 use Rattle.iv_forms.proofs.Splits.{by_att, strong_mark, weak_mark}
 use Rattle.iv_forms.proofs.Splits.{S}
 

@@ -1,9 +1,9 @@
 -- From the forms back to the table. Written by tools/outer_back.py from tools/back.txt.
 use Rattle.std.proofs.Common.{ℕ, List, [], ◌∷◌, refl, inl, inr}
-use Rattle.iv_gram.specs.declared.part.Part.TheVariants as P
-use Rattle.iv_gram.specs.declared.part.Symbol.{Symbol}
-use Rattle.iv_gram.specs.declared.part.Symbol.TheVariants.{Goes}
-use Rattle.iv_gram.specs.Table.{AND, ARROW, BAR, CALL_NAME, CASE_BAR, CLOSE, COLON, COMMA, CONCLUSION, CUT, IDENTIFIER, IN, INTO, LEFT, LONG, MATCH, MINUS, NAME, NO_IDENT, NUMERAL, OPEN, OUT_OF, PLUS, PREMISES, QUESTION, RIGHT, RULE, SEMICOLON, SUBJECT_NAME, TERM}
+use Rattle.iv_recogniser.specs.declared.part.Part.TheVariants as P
+use Rattle.iv_recogniser.specs.declared.part.Symbol.{Symbol}
+use Rattle.iv_recogniser.specs.declared.part.Symbol.TheVariants.{Goes}
+use Rattle.iv_recogniser.specs.Table.{AND, ARROW, BAR, CALL_NAME, CASE_BAR, CLOSE, COLON, COMMA, CONCLUSION, CUT, IDENTIFIER, IN, INTO, LEFT, LONG, MATCH, MINUS, NAME, NO_IDENT, NUMERAL, OPEN, OUT_OF, PLUS, PREMISES, QUESTION, RIGHT, RULE, SEMICOLON, SUBJECT_NAME, TERM}
 use Rattle.iv_forms.specs.declared.lexeme.Lexeme.{Lexeme}
 use Rattle.iv_forms.specs.FactForm.{IsMoreFacts, IsOptAtts, IsSels, and_facts, atts, fact, facts, more_facts, no_atts, no_more_facts, no_sels, sels, some_atts}
 use Rattle.iv_forms.specs.MethodForm.{IsArgs, IsCases, IsCut, IsItem, IsMethod, IsMoreAlt, IsMoreCases, IsMorePatterns, IsMoreSemi, IsMoreSeq, IsOptMethod, IsOptNat, IsPattern, IsSections, IsSubject, IsSuffix, a_cut, a_method, a_number, alt, arg_method, arg_term, args, bar, case_is, cases, comma, conclusion, core_dash, core_name, core_paren, first, item_call, item_match, item_method, item_rule, item_sections, method, more_cases, more_patterns, named_pattern, no_args, no_bar, no_comma, no_cut, no_method, no_more_cases, no_more_patterns, no_number, no_sections, no_semicolon, no_suffix, pattern_, premises, repeat, section, sections, semi, semicolon, seq, subject_facts, subject_term, try}
@@ -19,9 +19,9 @@ use Rattle.iv_forms.specs.declared.method.Pattern.{Pattern}
 use Rattle.iv_forms.specs.declared.method.MethodText.{MethodText}
 use Rattle.iv_forms.specs.declared.method.Arg.{Arg}
 use Rattle.iv_forms.specs.declared.method.Case.{Case}
-use Rattle.iv_gram.specs.declared.class.Class.{Class}
-use Rattle.iv_gram.specs.Table.{forms}
-use Rattle.iv_gram.specs.Spell.{Spells, word, part}
+use Rattle.iv_recogniser.specs.declared.class.Class.{Class}
+use Rattle.iv_recogniser.specs.Table.{forms}
+use Rattle.iv_recogniser.specs.Spell.{Spells, word, part}
 use Rattle.iv_forms.proofs.Splits.{by_call, by_ident, by_long, by_subject}
 use Rattle.iv_forms.proofs.Splits.{S}
 use Rattle.iv_forms.proofs.BackFact.{att_s, fact_s, more_atts_s, more_facts_s, more_sels_s, opt_atts_s, sel_s, sels_s}

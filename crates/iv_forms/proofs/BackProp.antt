@@ -1,9 +1,9 @@
 -- From the forms back to the table. Written by tools/outer_back.py from tools/back.txt.
 use Rattle.std.proofs.Common.{List, [], ◌∷◌, refl, inl, inr}
-use Rattle.iv_gram.specs.declared.part.Part.TheVariants as P
-use Rattle.iv_gram.specs.declared.part.Symbol.{Symbol}
-use Rattle.iv_gram.specs.declared.part.Symbol.TheVariants.{Goes}
-use Rattle.iv_gram.specs.Table.{AND, CLOSE, COLON, COLONS, FOR, IDENTIFIER, IS, LEFT, NAME, NO_NAME, OPEN, RIGHT, TERM, TYPE}
+use Rattle.iv_recogniser.specs.declared.part.Part.TheVariants as P
+use Rattle.iv_recogniser.specs.declared.part.Symbol.{Symbol}
+use Rattle.iv_recogniser.specs.declared.part.Symbol.TheVariants.{Goes}
+use Rattle.iv_recogniser.specs.Table.{AND, CLOSE, COLON, COLONS, FOR, IDENTIFIER, IS, LEFT, NAME, NO_NAME, OPEN, RIGHT, TERM, TYPE}
 use Rattle.iv_forms.specs.declared.lexeme.Lexeme.{Lexeme}
 use Rattle.iv_forms.specs.FactForm.{atts, no_atts, some_atts}
 use Rattle.iv_forms.specs.PropForm.{IsClaim, IsGroup, IsLabel, IsMoreGroups, IsMoreProps, IsMoreVars, IsOfType, IsOptFor, IsPatterns, IsProp, IsProps, IsVars, a_label, bare_label, claim, for_vars, group, more_groups, more_props, more_vars, named_label, no_for, no_label, no_more_groups, no_more_props, no_more_vars, no_patterns, no_type, of_type, patterns, prop, props, var_group, vars}
@@ -15,9 +15,9 @@ use Rattle.iv_forms.specs.declared.prop.Prop.{Prop}
 use Rattle.iv_forms.specs.declared.prop.Claim.{Claim}
 use Rattle.iv_forms.specs.declared.prop.Group.{Group}
 use Rattle.iv_forms.specs.declared.prop.VarGroup.{VarGroup}
-use Rattle.iv_gram.specs.declared.class.Class.{Class}
-use Rattle.iv_gram.specs.Table.{forms}
-use Rattle.iv_gram.specs.Spell.{Spells, word, part}
+use Rattle.iv_recogniser.specs.declared.class.Class.{Class}
+use Rattle.iv_recogniser.specs.Table.{forms}
+use Rattle.iv_recogniser.specs.Spell.{Spells, word, part}
 use Rattle.iv_forms.proofs.Splits.{by_name}
 use Rattle.iv_forms.proofs.Splits.{S}
 use Rattle.iv_forms.proofs.BackFact.{att_s, idents_s, more_atts_s, terms_s}

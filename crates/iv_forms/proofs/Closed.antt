@@ -1,14 +1,14 @@
 -- Written by tools/outer_means.py from tools/meanings.txt.
 -- What a row of a part means, the part means.
 use Rattle.std.proofs.Common.{List}
-use Rattle.iv_gram.specs.declared.part.Part.TheVariants as P
-use Rattle.iv_gram.specs.declared.part.Part.{Part}
-use Rattle.iv_gram.specs.declared.part.Symbol.{Symbol}
+use Rattle.iv_recogniser.specs.declared.part.Part.TheVariants as P
+use Rattle.iv_recogniser.specs.declared.part.Part.{Part}
+use Rattle.iv_recogniser.specs.declared.part.Symbol.{Symbol}
 use Rattle.iv_forms.specs.declared.lexeme.Lexeme.{Lexeme}
 use Rattle.iv_forms.proofs.Sorts.{Law}
 use Rattle.iv_forms.proofs.Means.{Means, MeansPart}
-use Rattle.iv_gram.specs.Table.{forms}
-use Rattle.iv_gram.specs.Spell.{IsIn}
+use Rattle.iv_recogniser.specs.Table.{forms}
+use Rattle.iv_recogniser.specs.Spell.{IsIn}
 use Rattle.iv_forms.proofs.RowsFact.{part_fact, part_facts, part_more_facts, part_sels, part_sel, part_sel_to, part_more_sels, part_opt_atts, part_more_atts, part_att, part_opt_mark, part_of_facts, part_fact_places, part_then_fact, part_of_terms, part_term_places, part_more_wheres}
 use Rattle.iv_forms.proofs.RowsProp.{part_prop, part_pattern, part_terms, part_claim, part_claim_name, part_props, part_props_name, part_more_props, part_labelled_term, part_term_name, part_names, part_idents, part_of_type, part_vars, part_more_vars, part_opt_for, part_const, part_fix, part_fixity}
 use Rattle.iv_forms.proofs.RowsMethod.{part_method, part_opt_method, part_suffix, part_opt_nat, part_more_alt, part_more_semi, part_more_seq, part_item, part_rule_rest, part_call_rest, part_call_args, part_call_ident, part_sections, part_section_ident, part_match_rest, part_subject_name, part_cases, part_more_cases, part_pat, part_pat_ident, part_cut, part_more_pats}

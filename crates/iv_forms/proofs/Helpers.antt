@@ -1,9 +1,9 @@
 -- Forms that are put together of parts.
 use Rattle.std.proofs.Common.{◌≡◌, ℕ, List, ◌∷◌, Bool, true, false, refl, inl, inr}
 use Rattle.std.specs.Prelude.{Option, Some, None, ◌⊎◌, ◌||◌}
-use Rattle.iv_gram.specs.declared.class.Class.TheVariants as class
-use Rattle.iv_gram.specs.declared.class.Sort.TheVariants as sort
-use Rattle.iv_gram.specs.Class.{same_class}
+use Rattle.iv_recogniser.specs.declared.class.Class.TheVariants as class
+use Rattle.iv_recogniser.specs.declared.class.Sort.TheVariants as sort
+use Rattle.iv_recogniser.specs.Class.{same_class}
 use Rattle.iv_forms.specs.declared.fact.Mark.TheVariants as VMark
 use Rattle.iv_forms.specs.declared.fact.Fact.{Fact}
 use Rattle.iv_forms.specs.declared.prop.Label.{Label}

@@ -1,11 +1,11 @@
 -- Written by tools/outer_means.py from tools/meanings.txt.
 -- What the rows of the table mean.
 use Rattle.std.proofs.Common.{List, [], ◌∷◌, refl, subst, inl, inr}
-use Rattle.iv_gram.specs.declared.class.Sort.TheVariants as sort
-use Rattle.iv_gram.specs.declared.part.Part.TheVariants as P
-use Rattle.iv_gram.specs.declared.part.Symbol.{Symbol}
-use Rattle.iv_gram.specs.declared.part.Symbol.TheVariants.{Goes}
-use Rattle.iv_gram.specs.Table.{AND, ASSUMES, CLOSE, COLON, COLONS, COMMA, DECLARES, EQUAL, FIXES, IDENTIFIER, IS, JUDGING, LEFT, LONG, METHODS, NAME, NO_IDENT, NO_NAME, OPEN, PRIORITY, RIGHT, SHOWS, TERM, TVAR, TYPE, USES, WHERE}
+use Rattle.iv_recogniser.specs.declared.class.Sort.TheVariants as sort
+use Rattle.iv_recogniser.specs.declared.part.Part.TheVariants as P
+use Rattle.iv_recogniser.specs.declared.part.Symbol.{Symbol}
+use Rattle.iv_recogniser.specs.declared.part.Symbol.TheVariants.{Goes}
+use Rattle.iv_recogniser.specs.Table.{AND, ASSUMES, CLOSE, COLON, COLONS, COMMA, DECLARES, EQUAL, FIXES, IDENTIFIER, IS, JUDGING, LEFT, LONG, METHODS, NAME, NO_IDENT, NO_NAME, OPEN, PRIORITY, RIGHT, SHOWS, TERM, TVAR, TYPE, USES, WHERE}
 use Rattle.iv_forms.specs.declared.lexeme.Lexeme.{Lexeme}
 use Rattle.iv_forms.specs.Lexeme.{no_more}
 use Rattle.iv_forms.specs.FactForm.{atts, fact, facts, more_facts, no_atts, no_more_facts, no_sels, sels, some_atts}
@@ -14,8 +14,8 @@ use Rattle.iv_forms.specs.CommandForm.{and_consts, assumes, axiom_consts, axiom_
 use Rattle.iv_forms.proofs.Sorts.{Law, ident_name, ident_term, long_name, name_term, no_ident_term, within}
 use Rattle.iv_forms.proofs.Means.{Means, MeansPart, brief, end, full, phrase, prop_tail, token, var_tail}
 use Rattle.iv_forms.proofs.Helpers.{and_notes, and_tail, ident_tail, labelled, noted, obtained_tail}
-use Rattle.iv_gram.specs.Table.{forms}
-use Rattle.iv_gram.specs.Spell.{IsIn}
+use Rattle.iv_recogniser.specs.Table.{forms}
+use Rattle.iv_recogniser.specs.Spell.{IsIn}
 
 module _ (law : Law) where
   pub row_typed_0 : {ts us : List Lexeme} → Means (IDENTIFIER ∷ []) ts us → MeansPart P.Typed ts us

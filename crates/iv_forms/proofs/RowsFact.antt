@@ -1,19 +1,19 @@
 -- Written by tools/outer_means.py from tools/meanings.txt.
 -- What the rows of the table mean.
 use Rattle.std.proofs.Common.{List, [], ◌∷◌, refl, subst, inl, inr}
-use Rattle.iv_gram.specs.declared.class.Class.TheVariants as class
-use Rattle.iv_gram.specs.declared.class.Sort.TheVariants as sort
-use Rattle.iv_gram.specs.declared.part.Part.TheVariants as P
-use Rattle.iv_gram.specs.declared.part.Symbol.{Symbol}
-use Rattle.iv_gram.specs.declared.part.Symbol.TheVariants.{Goes}
-use Rattle.iv_gram.specs.Table.{AND, CLOSE, COMMA, DUMMY, EQUAL, IDENTIFIER, LEFT, MARK, MINUS, NAME, NUMERAL, OF_FACTS, OF_TERMS, OPEN, OTHER_NAME, RIGHT, TERM, THEN_FACT, WHERE}
+use Rattle.iv_recogniser.specs.declared.class.Class.TheVariants as class
+use Rattle.iv_recogniser.specs.declared.class.Sort.TheVariants as sort
+use Rattle.iv_recogniser.specs.declared.part.Part.TheVariants as P
+use Rattle.iv_recogniser.specs.declared.part.Symbol.{Symbol}
+use Rattle.iv_recogniser.specs.declared.part.Symbol.TheVariants.{Goes}
+use Rattle.iv_recogniser.specs.Table.{AND, CLOSE, COMMA, DUMMY, EQUAL, IDENTIFIER, LEFT, MARK, MINUS, NAME, NUMERAL, OF_FACTS, OF_TERMS, OPEN, OTHER_NAME, RIGHT, TERM, THEN_FACT, WHERE}
 use Rattle.iv_forms.specs.declared.lexeme.Lexeme.{Lexeme}
 use Rattle.iv_forms.specs.FactForm.{and_facts, att_name, atts, fact, fact_given, fact_hole, facts, more_atts, more_facts, more_sels, more_wheres, no_atts, no_mark, no_more_atts, no_more_facts, no_more_sels, no_more_wheres, no_places, no_sels, no_term_places, of_facts, of_terms, one, places, range, sels, some_atts, term_given, term_hole, term_places, then_fact, where_are, where_is}
 use Rattle.iv_forms.proofs.Sorts.{Law, within}
 use Rattle.iv_forms.proofs.Means.{Means, MeansPart, end, phrase, token}
 use Rattle.iv_forms.proofs.Helpers.{mark_of}
-use Rattle.iv_gram.specs.Table.{forms}
-use Rattle.iv_gram.specs.Spell.{IsIn}
+use Rattle.iv_recogniser.specs.Table.{forms}
+use Rattle.iv_recogniser.specs.Spell.{IsIn}
 
 module _ (law : Law) where
   pub row_fact_0 : {ts us : List Lexeme} → Means (NAME ∷ Goes P.Sels ∷ Goes P.OptAtts ∷ []) ts us → MeansPart P.Fact ts us

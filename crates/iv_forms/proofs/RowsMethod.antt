@@ -1,12 +1,12 @@
 -- Written by tools/outer_means.py from tools/meanings.txt.
 -- What the rows of the table mean.
 use Rattle.std.proofs.Common.{List, [], ◌∷◌, refl, subst, inl, inr}
-use Rattle.iv_gram.specs.declared.class.Class.TheVariants as class
-use Rattle.iv_gram.specs.declared.class.Sort.TheVariants as sort
-use Rattle.iv_gram.specs.declared.part.Part.TheVariants as P
-use Rattle.iv_gram.specs.declared.part.Symbol.{Symbol}
-use Rattle.iv_gram.specs.declared.part.Symbol.TheVariants.{Goes}
-use Rattle.iv_gram.specs.Table.{AND, ARROW, BAR, CALL_NAME, CASE_BAR, CLOSE, COLON, COMMA, CONCLUSION, CUT, IDENTIFIER, IN, INTO, LEFT, LONG, MATCH, MINUS, NAME, NO_IDENT, NUMERAL, OPEN, OUT_OF, PLUS, PREMISES, QUESTION, RIGHT, RULE, SEMICOLON, SUBJECT_NAME, TERM}
+use Rattle.iv_recogniser.specs.declared.class.Class.TheVariants as class
+use Rattle.iv_recogniser.specs.declared.class.Sort.TheVariants as sort
+use Rattle.iv_recogniser.specs.declared.part.Part.TheVariants as P
+use Rattle.iv_recogniser.specs.declared.part.Symbol.{Symbol}
+use Rattle.iv_recogniser.specs.declared.part.Symbol.TheVariants.{Goes}
+use Rattle.iv_recogniser.specs.Table.{AND, ARROW, BAR, CALL_NAME, CASE_BAR, CLOSE, COLON, COMMA, CONCLUSION, CUT, IDENTIFIER, IN, INTO, LEFT, LONG, MATCH, MINUS, NAME, NO_IDENT, NUMERAL, OPEN, OUT_OF, PLUS, PREMISES, QUESTION, RIGHT, RULE, SEMICOLON, SUBJECT_NAME, TERM}
 use Rattle.iv_forms.specs.declared.method.MethodText.TheVariants as VMethod
 use Rattle.iv_forms.specs.declared.lexeme.Lexeme.{Lexeme}
 use Rattle.iv_forms.specs.FactForm.{and_facts, atts, fact, facts, more_facts, no_atts, no_more_facts, no_sels, sels, some_atts}
@@ -15,8 +15,8 @@ use Rattle.iv_forms.specs.CommandForm.{none_given, one_given}
 use Rattle.iv_forms.proofs.Sorts.{Law, ident_name, ident_term, long_name, no_ident_term, within, word_name}
 use Rattle.iv_forms.proofs.Means.{Means, MeansPart, call_args, call_sections, end, phrase, token}
 use Rattle.iv_forms.proofs.Helpers.{alt_of, args_of, bar_of, bare, call_after, comma_of, fact_then, item_of, opt_nat, paren_of, semi_of, semicolon_of, seq_of, word_alone}
-use Rattle.iv_gram.specs.Table.{forms}
-use Rattle.iv_gram.specs.Spell.{IsIn}
+use Rattle.iv_recogniser.specs.Table.{forms}
+use Rattle.iv_recogniser.specs.Spell.{IsIn}
 
 module _ (law : Law) where
   pub row_method_0 : {ts us : List Lexeme} → Means (NAME ∷ Goes P.Suffix ∷ []) ts us → MeansPart P.Method ts us

@@ -1,11 +1,11 @@
 -- Written by tools/outer_means.py from tools/meanings.txt.
 -- What the rows of the table mean.
 use Rattle.std.proofs.Common.{List, [], ◌∷◌, refl, subst, inl, inr}
-use Rattle.iv_gram.specs.declared.class.Sort.TheVariants as sort
-use Rattle.iv_gram.specs.declared.part.Part.TheVariants as P
-use Rattle.iv_gram.specs.declared.part.Symbol.{Symbol}
-use Rattle.iv_gram.specs.declared.part.Symbol.TheVariants.{Goes}
-use Rattle.iv_gram.specs.Table.{AND, BINDER, BINDING, CLOSE, COLON, COLONS, FOR, IDENTIFIER, INFIX, INFIXL, INFIXR, IS, LEFT, LOW, NAME, NO_NAME, OPEN, PLAIN, PREFIX, PRIORITY, RIGHT, TERM, TYPE}
+use Rattle.iv_recogniser.specs.declared.class.Sort.TheVariants as sort
+use Rattle.iv_recogniser.specs.declared.part.Part.TheVariants as P
+use Rattle.iv_recogniser.specs.declared.part.Symbol.{Symbol}
+use Rattle.iv_recogniser.specs.declared.part.Symbol.TheVariants.{Goes}
+use Rattle.iv_recogniser.specs.Table.{AND, BINDER, BINDING, CLOSE, COLON, COLONS, FOR, IDENTIFIER, INFIX, INFIXL, INFIXR, IS, LEFT, LOW, NAME, NO_NAME, OPEN, PLAIN, PREFIX, PRIORITY, RIGHT, TERM, TYPE}
 use Rattle.iv_forms.specs.declared.lexeme.Lexeme.{Lexeme}
 use Rattle.iv_forms.specs.Lexeme.{no_more, one_more}
 use Rattle.iv_forms.specs.FactForm.{atts, no_atts, some_atts}
@@ -14,8 +14,8 @@ use Rattle.iv_forms.specs.CommandForm.{binder, const, fix_is, infix_is, infixl_i
 use Rattle.iv_forms.proofs.Sorts.{Law, name_term, within}
 use Rattle.iv_forms.proofs.Means.{Means, MeansPart, end, phrase, token}
 use Rattle.iv_forms.proofs.Helpers.{and_props}
-use Rattle.iv_gram.specs.Table.{forms}
-use Rattle.iv_gram.specs.Spell.{IsIn}
+use Rattle.iv_recogniser.specs.Table.{forms}
+use Rattle.iv_recogniser.specs.Spell.{IsIn}
 
 module _ (law : Law) where
   pub row_prop_0 : {ts us : List Lexeme} → Means (TERM ∷ Goes P.Pattern ∷ []) ts us → MeansPart P.Prop ts us

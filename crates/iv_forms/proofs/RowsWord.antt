@@ -1,16 +1,16 @@
 -- Written by tools/outer_means.py from tools/meanings.txt.
 -- What the rows of the table mean.
 use Rattle.std.proofs.Common.{List, [], ◌∷◌, subst, inl, inr}
-use Rattle.iv_gram.specs.declared.part.Part.TheVariants as P
-use Rattle.iv_gram.specs.declared.part.Symbol.{Symbol}
-use Rattle.iv_gram.specs.declared.part.Symbol.TheVariants.{Goes}
-use Rattle.iv_gram.specs.Table.{ALSO, APPLY, ASSUME, AXIOMATIZATION, BACK, BEGIN, BY, CHAPTER, COLONS, CONSTS, COROLLARY, DECLARE, DEFER, DEFINE, DONE, DOT, DOTS, END, EQUAL, FINALLY, FIX, FROM, HAVE, HENCE, IDENTIFIER, IMPORTS, JUDGMENT, LEFT_BRACE, LEMMA, LEMMAS, LET, METHOD, MOREOVER, NAME, NAMED_THEOREMS, NEXT, NOTE, NUMERAL, OBTAIN, OOPS, PARAGRAPH, PREFER, PRESUME, PROOF, PROPOSITION, PROSE, QED, QUOTED, RIGHT_BRACE, SECTION, SHOW, SUBPARAGRAPH, SUBSECTION, SUBSUBSECTION, TERM, THEN, THEOREM, THEORY, THUS, TXT, TYPE, TYPEDECL, ULTIMATELY, USING, WHERE, WITH}
+use Rattle.iv_recogniser.specs.declared.part.Part.TheVariants as P
+use Rattle.iv_recogniser.specs.declared.part.Symbol.{Symbol}
+use Rattle.iv_recogniser.specs.declared.part.Symbol.TheVariants.{Goes}
+use Rattle.iv_recogniser.specs.Table.{ALSO, APPLY, ASSUME, AXIOMATIZATION, BACK, BEGIN, BY, CHAPTER, COLONS, CONSTS, COROLLARY, DECLARE, DEFER, DEFINE, DONE, DOT, DOTS, END, EQUAL, FINALLY, FIX, FROM, HAVE, HENCE, IDENTIFIER, IMPORTS, JUDGMENT, LEFT_BRACE, LEMMA, LEMMAS, LET, METHOD, MOREOVER, NAME, NAMED_THEOREMS, NEXT, NOTE, NUMERAL, OBTAIN, OOPS, PARAGRAPH, PREFER, PRESUME, PROOF, PROPOSITION, PROSE, QED, QUOTED, RIGHT_BRACE, SECTION, SHOW, SUBPARAGRAPH, SUBSECTION, SUBSUBSECTION, TERM, THEN, THEOREM, THEORY, THUS, TXT, TYPE, TYPEDECL, ULTIMATELY, USING, WHERE, WITH}
 use Rattle.iv_forms.specs.declared.lexeme.Lexeme.{Lexeme}
 use Rattle.iv_forms.specs.CommandForm.{also, apply, assume, axiomatization, back, by, chapter, consts, corollary, declare, defer, define, done_, dot, dots, end_, equation, finally, fix, from, have, hence, judgment, left_brace, lemma_, lemmas, let_, method_, moreover, named_theorems, next_, note, obtain, oops, paragraph, prefer, presume, proof, proposition, prose, qed, right_brace, section_, show, subparagraph, subsection, subsubsection, then_, theorem_, theory, thus, txt, typedecl, ultimately, using_, with_}
 use Rattle.iv_forms.proofs.Sorts.{Law}
 use Rattle.iv_forms.proofs.Means.{Means, MeansPart, end, phrase, token}
-use Rattle.iv_gram.specs.Table.{forms}
-use Rattle.iv_gram.specs.Spell.{IsIn}
+use Rattle.iv_recogniser.specs.Table.{forms}
+use Rattle.iv_recogniser.specs.Spell.{IsIn}
 
 module _ (law : Law) where
   pub row_command_0 : {ts us : List Lexeme} → Means (THEORY ∷ NAME ∷ IMPORTS ∷ NAME ∷ Goes P.Names ∷ BEGIN ∷ []) ts us → MeansPart P.Command ts us

@@ -2,15 +2,15 @@
 use Rattle.std.proofs.Common.{◌≡◌, ℕ, zero, suc, ◌<◌, List, [], ◌∷◌, ◌++◌, length, take, true, refl, ap, sym, ◌∙◌, subst}
 use Rattle.std.specs.Prelude.{map}
 use Rattle.iv_lex.specs.declared.cutting.Kind.TheVariants as kind
-use Rattle.iv_gram.specs.declared.class.Class.{Class}
-use Rattle.iv_gram.specs.declared.part.Part.TheVariants as P
-use Rattle.iv_gram.specs.declared.part.Symbol.{Symbol}
-use Rattle.iv_gram.specs.declared.part.Symbol.TheVariants.{Word, Goes}
-use Rattle.iv_gram.specs.declared.reading.Verdict.{Verdict}
-use Rattle.iv_gram.specs.declared.reading.Verdict.TheVariants.{Whole, Cut, Refused}
-use Rattle.iv_gram.specs.Class.{has}
-use Rattle.iv_gram.specs.Table.{forms}
-use Rattle.iv_gram.specs.Spell.{Spells, none, word, part, IsViable, Judged}
+use Rattle.iv_recogniser.specs.declared.class.Class.{Class}
+use Rattle.iv_recogniser.specs.declared.part.Part.TheVariants as P
+use Rattle.iv_recogniser.specs.declared.part.Symbol.{Symbol}
+use Rattle.iv_recogniser.specs.declared.part.Symbol.TheVariants.{Word, Goes}
+use Rattle.iv_recogniser.specs.declared.reading.Verdict.{Verdict}
+use Rattle.iv_recogniser.specs.declared.reading.Verdict.TheVariants.{Whole, Cut, Refused}
+use Rattle.iv_recogniser.specs.Class.{has}
+use Rattle.iv_recogniser.specs.Table.{forms}
+use Rattle.iv_recogniser.specs.Spell.{Spells, none, word, part, IsViable, Judged}
 use Rattle.iv_forms.specs.declared.lexeme.Lexeme.{Lexeme}
 use Rattle.iv_forms.specs.Readable.{IsReadable, IsOpen, IsVerdict}
 use Rattle.iv_forms.proofs.Sorts.{Law}

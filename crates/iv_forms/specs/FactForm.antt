@@ -1,8 +1,8 @@
 -- Selections, attributes and facts: what tokens are read as which value. `IsR v ts us`: the tokens ts begin with the form R of the value v, and us stand behind it.
 -- After the outer syntax of Isabelle's Reference Manual, in a profile of this project. Written by tools/outer_forms.py from tools/readings.txt.
 use Rattle.std.specs.Prelude.{List, [], ◌∷◌}
-use Rattle.iv_gram.specs.declared.class.Class.TheVariants as class
-use Rattle.iv_gram.specs.declared.class.Sort.TheVariants as sort
+use Rattle.iv_recogniser.specs.declared.class.Class.TheVariants as class
+use Rattle.iv_recogniser.specs.declared.class.Sort.TheVariants as sort
 use Rattle.iv_forms.specs.declared.fact.Sel.{Sel}
 use Rattle.iv_forms.specs.declared.fact.Sel.TheVariants as VSel
 use Rattle.iv_forms.specs.declared.fact.Mark.{Mark}

@@ -1,7 +1,7 @@
 -- What is known of some tokens, in words of the forms.
 use Rattle.std.specs.Prelude.{ℕ, suc, ◌<◌, List, [], ◌++◌, length, take}
-use Rattle.iv_gram.specs.declared.reading.Verdict.{Verdict}
-use Rattle.iv_gram.specs.declared.reading.Verdict.TheVariants.{Whole, Cut, Refused}
+use Rattle.iv_recogniser.specs.declared.reading.Verdict.{Verdict}
+use Rattle.iv_recogniser.specs.declared.reading.Verdict.TheVariants.{Whole, Cut, Refused}
 use Rattle.iv_forms.specs.declared.lexeme.Lexeme.{Lexeme}
 use Rattle.iv_forms.specs.declared.command.Body.{Body}
 use Rattle.iv_forms.specs.CommandForm.{IsForm}

@@ -3,8 +3,8 @@ ghost use Rattle.iv_term.specs.declared.want.Want.TheVariants.{Memory};
 ghost use Rattle.iv_forms.specs.Readable.{IsVerdict};
 
 use crate::lexeme::Lexeme;
-use iv_gram::laws::sets_are_their_members;
-use iv_gram::{Class, Part, Verdict, read};
+use iv_recogniser::laws::sets_are_their_members;
+use iv_recogniser::{Class, Part, Verdict, read};
 use iv_term::Mem;
 use std::alloc::Global;
 

@@ -1,5 +1,5 @@
-use iv_gram::Class;
 use iv_lex::Token;
+use iv_recogniser::Class;
 
 /// A token with its class, and its number where it is one.
 #[derive(Drop)]

@@ -1,8 +1,8 @@
 use crate::items::Items;
 use crate::judge::judge;
 use crate::lexeme::Lexeme;
-use iv_gram::{Class, Verdict};
 use iv_lex::{Kind, Token};
+use iv_recogniser::{Class, Verdict};
 use iv_term::Text;
 use iv_text::Pos;
 use std::test::Fail;

@@ -4,10 +4,8 @@
 //! name. A look-up goes by a hash of the name's text and number, and takes no memory.
 #![tactic(auto)]
 
-pub mod copied;
 pub mod name_map;
 
-pub use copied::Copied;
 pub use name_map::NameMap;
 
 #[cfg(test)]

@@ -6,9 +6,8 @@ ghost use Rattle.iv_term.specs.Typ.{same_name};
 ghost use Rattle.iv_term.specs.declared.want.Want.TheVariants.{Memory};
 ghost use Rattle.iv_map.specs.NameMap.{look};
 
-use crate::copied::Copied;
 use indexmap::IndexMap;
-use iv_term::{Mem, Name};
+use iv_term::{Copied, Mem, Name};
 use std::alloc::Global;
 use std::marker::Model;
 

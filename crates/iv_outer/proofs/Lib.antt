@@ -1,6 +1,5 @@
 pub mod Numbers
 pub mod PieceSteps
-pub mod EncodeSteps
 pub mod OpenSteps
 pub mod PlaceSteps
 pub mod JoinSteps

@@ -4,8 +4,8 @@ use Rattle.std.specs.Prelude.{Some, ◌⊎◌, if◌then◌else◌, nat_lt, enco
 use Rattle.iv_text.specs.declared.Pos.{Pos}
 use Rattle.iv_lex.specs.declared.cutting.Token.{Token}
 use Rattle.iv_lex.specs.Token.{tokens_of}
-use Rattle.iv_gram.specs.declared.class.Class.{Class}
-use Rattle.iv_gram.specs.declared.class.Class.TheVariants as class
+use Rattle.iv_recogniser.specs.declared.class.Class.{Class}
+use Rattle.iv_recogniser.specs.declared.class.Class.TheVariants as class
 use Rattle.iv_forms.specs.declared.command.Body.{Body}
 use Rattle.iv_forms.specs.declared.lexeme.Lexeme.{Lexeme}
 use Rattle.iv_forms.specs.CommandForm.{IsForm}

@@ -2,9 +2,9 @@
 use Rattle.std.specs.Prelude.{ℕ, zero, suc, List, [], ◌∷◌, ◌++◌, length, map, Bool, false, ◌&&◌, ◌||◌, if◌then◌else◌, nat_lt, max, encode_utf8_all}
 use Rattle.iv_lex.specs.declared.cutting.Token.{Token}
 use Rattle.iv_lex.specs.Token.{tokens_of}
-use Rattle.iv_gram.specs.declared.class.Class.{Class}
-use Rattle.iv_gram.specs.declared.class.Class.TheVariants as class
-use Rattle.iv_gram.specs.Class.{same_class}
+use Rattle.iv_recogniser.specs.declared.class.Class.{Class}
+use Rattle.iv_recogniser.specs.declared.class.Class.TheVariants as class
+use Rattle.iv_recogniser.specs.Class.{same_class}
 use Rattle.iv_forms.specs.declared.lexeme.Lexeme.{Lexeme}
 use Rattle.iv_outer.specs.Classify.{lexeme_of}
 

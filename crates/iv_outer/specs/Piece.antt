@@ -2,9 +2,9 @@
 use Rattle.std.specs.Prelude.{ℕ, zero, suc, ◌+◌, List, [], ◌∷◌, Bool, not, nat_lt}
 use Rattle.std.specs.List.{prefix_len}
 use Rattle.iv_lex.specs.declared.cutting.Token.{Token}
-use Rattle.iv_gram.specs.declared.class.Class.{Class}
-use Rattle.iv_gram.specs.declared.class.Class.TheVariants as class
-use Rattle.iv_gram.specs.Class.{number}
+use Rattle.iv_recogniser.specs.declared.class.Class.{Class}
+use Rattle.iv_recogniser.specs.declared.class.Class.TheVariants as class
+use Rattle.iv_recogniser.specs.Class.{number}
 use Rattle.iv_outer.specs.declared.pieces.Piece.{Piece}
 use Rattle.iv_outer.specs.Classify.{class_of}
 

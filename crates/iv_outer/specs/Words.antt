@@ -1,8 +1,8 @@
 -- The words of the outer syntax with their classes. After the outer syntax of Isabelle's Reference Manual, in a profile of this project.
 -- Written by tools/outer_words.py.
 use Rattle.std.specs.Prelude.{ℕ, List, [], ◌∷◌, map, codes}
-use Rattle.iv_gram.specs.declared.class.Class.{Class}
-use Rattle.iv_gram.specs.declared.class.Class.TheVariants as class
+use Rattle.iv_recogniser.specs.declared.class.Class.{Class}
+use Rattle.iv_recogniser.specs.declared.class.Class.TheVariants as class
 use Rattle.iv_outer.specs.declared.words.Word.{Word}
 
 -- a text with its class

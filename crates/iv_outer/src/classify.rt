@@ -6,8 +6,8 @@ ghost use Rattle.iv_outer.specs.Classify.{behind_dot, class_of, is_symbolic, lex
 
 use crate::words::{Word, delimiters, signs, words};
 use iv_forms::Lexeme;
-use iv_gram::Class;
 use iv_lex::{Kind, Token};
+use iv_recogniser::Class;
 use iv_term::Mem;
 use std::alloc::Global;
 

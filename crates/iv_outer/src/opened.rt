@@ -1,29 +1,17 @@
-ghost use Rattle.std.specs.Prelude.{◌≡◌, ◌<◌, ◌^◌, ◌++◌, ◌∷◌, [], IfOk, IfErr, OnOk, encode_utf8_all, length, if◌then◌else◌, map};
+ghost use Rattle.std.specs.Prelude.{◌≡◌, ◌<◌, ◌^◌, ◌++◌, ◌∷◌, [], IfOk, IfErr, OnOk, length, if◌then◌else◌, map};
 ghost use Rattle.iv_lex.specs.Token.{tokens_of};
 ghost use Rattle.iv_term.specs.declared.want.Want.TheVariants.{Memory};
-ghost use Rattle.iv_gram.specs.declared.class.Class.TheVariants.{Other};
-ghost use Rattle.iv_gram.specs.declared.class.Class.TheVariants as class;
+ghost use Rattle.iv_recogniser.specs.declared.class.Class.TheVariants.{Other};
+ghost use Rattle.iv_recogniser.specs.declared.class.Class.TheVariants as class;
 ghost use Rattle.iv_outer.specs.Classify.{lexeme_of};
 ghost use Rattle.iv_outer.specs.Opened.{any_case, bracket, is_case, lexemes_of, longest, open_once, opened, opened_cartouche, placed};
 
 use crate::classify::{lexeme_of, lexemes};
 use iv_forms::Lexeme;
-use iv_gram::Class;
 use iv_lex::{Token, tokens};
-use iv_term::{Mem, Text};
+use iv_recogniser::Class;
+use iv_term::Mem;
 use std::alloc::Global;
-
-/// A text in UTF-8. Fails where memory runs out.
-fn encoded(alloc: Global, text: &Text) -> Mem<Vec<u8>>
-    ensures ok { IfOk result (λ v. v.items ≡ encode_utf8_all text.now) }
-    ensures memory { IfErr result (λ w. w ≡ Memory) }
-{
-    let mut out = String::new(alloc);
-    for c in text.as_slice() {
-        out.push(*c)?;
-    }
-    Ok(out.into_bytes())
-}
 
 /// The same token, at the place of the cartouche that it stands in. Fails where memory runs out.
 fn placed(cartouche: &Token, token: &Token) -> Mem<Token>
@@ -100,7 +88,7 @@ fn push_cartouche(alloc: Global, out: &mut Vec<Lexeme>, lexeme: &Lexeme) -> Mem<
     ensures ok { OnOk result (out.new.items ≡ out.old.items ++ opened_cartouche lexeme.now) }
     ensures memory { IfErr result (λ w. w ≡ Memory) }
 {
-    let bytes = encoded(alloc, &lexeme.token.text)?;
+    let bytes = lexeme.token.text.to_utf8(alloc)?;
     if bytes.len() < 4_294_967_296 {
         push_inside(alloc, out, &lexeme.token, &bytes)
     } else {

@@ -3,9 +3,9 @@ ghost use Rattle.iv_term.specs.declared.want.Want.TheVariants.{Memory};
 ghost use Rattle.iv_outer.specs.Piece.{begins, is_command, pieces_of, plain_more};
 
 use crate::classify::class_of;
-use iv_gram::Class;
 use iv_lex::Token;
 use iv_lex::letters::rest_from;
+use iv_recogniser::Class;
 use iv_term::Mem;
 use std::alloc::Global;
 

@@ -13,10 +13,10 @@ use crate::refusal::{end_of, place_at};
 use iv_facts::Stop;
 use iv_forms::Lexeme;
 use iv_forms::judge::judge;
-use iv_gram::Verdict;
 use iv_lex::Token;
 use iv_read::form;
 use iv_read::laws::{deep_parts_are_placed, forms_are_read};
+use iv_recogniser::Verdict;
 use iv_term::{Mem, Text, Want};
 use std::alloc::Global;
 

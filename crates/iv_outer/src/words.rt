@@ -3,7 +3,7 @@
 ghost use Rattle.std.specs.Prelude.{◌≡◌};
 ghost use Rattle.iv_outer.specs.Words.{words, delimiters, signs, plain};
 
-use iv_gram::Class;
+use iv_recogniser::Class;
 
 /// A text with its class.
 #[derive(Clone, Copy)]

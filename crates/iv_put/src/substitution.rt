@@ -10,9 +10,9 @@ ghost use Rattle.iv_hsub.specs.Typing.{IsTerm, HasType};
 ghost use Rattle.iv_put.specs.Subst.{value_of, has_value, AreClosed};
 
 use iv_hsub::type_of;
-use iv_map::{Copied, NameMap};
+use iv_map::NameMap;
 use iv_subst::TySubst;
-use iv_term::{Mem, Name, Term, Typ, Types};
+use iv_term::{Copied, Mem, Name, Term, Typ, Types};
 use std::alloc::Global;
 use std::marker::Model;
 

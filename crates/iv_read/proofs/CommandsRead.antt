@@ -1,8 +1,8 @@
 -- Axioms, the parts of `method`, statements, notes and obtained names are read as the forms say.
 use Rattle.std.proofs.Common.{◌≡◌, ◌≤◌, true, false, List, [], ◌∷◌, ◌++◌, length, refl, sym, ◌∙◌, arith, append_assoc, append-nil, ap}
-use Rattle.iv_gram.specs.declared.class.Class.TheVariants as class
-use Rattle.iv_gram.specs.declared.class.Sort.TheVariants as sort
-use Rattle.iv_gram.specs.Class.{has}
+use Rattle.iv_recogniser.specs.declared.class.Class.TheVariants as class
+use Rattle.iv_recogniser.specs.declared.class.Sort.TheVariants as sort
+use Rattle.iv_recogniser.specs.Class.{has}
 use Rattle.iv_forms.specs.declared.prop.Group.{Group}
 use Rattle.iv_forms.specs.declared.prop.VarGroup.{VarGroup}
 use Rattle.iv_forms.specs.declared.command.Axiom.{Axiom}

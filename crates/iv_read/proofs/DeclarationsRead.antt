@@ -2,9 +2,9 @@
 use Rattle.std.proofs.Common.{◌≡◌, ℕ, ◌≤◌, true, false, List, [], ◌∷◌, ◌++◌, length, refl, sym, ◌∙◌, arith, append_assoc, append-nil, ap}
 use Rattle.std.specs.Prelude.{Option}
 use Rattle.iv_lex.specs.declared.cutting.Token.{Token}
-use Rattle.iv_gram.specs.declared.class.Class.TheVariants as class
-use Rattle.iv_gram.specs.declared.class.Sort.TheVariants as sort
-use Rattle.iv_gram.specs.Class.{has}
+use Rattle.iv_recogniser.specs.declared.class.Class.TheVariants as class
+use Rattle.iv_recogniser.specs.declared.class.Sort.TheVariants as sort
+use Rattle.iv_recogniser.specs.Class.{has}
 use Rattle.iv_forms.specs.declared.command.Fixity.{Fixity}
 use Rattle.iv_forms.specs.declared.command.Constant.{Constant}
 use Rattle.iv_forms.specs.declared.command.Equation.{Equation}

@@ -2,9 +2,9 @@
 -- With which tokens a form begins: none of a set that has none of its first ones.
 use Rattle.std.proofs.Common.{◌≡◌, true, false, List}
 use Rattle.iv_forms.specs.declared.lexeme.Lexeme.{Lexeme}
-use Rattle.iv_gram.specs.declared.class.Sort.{Sort}
-use Rattle.iv_gram.specs.declared.class.Class.TheVariants as class
-use Rattle.iv_gram.specs.declared.class.Sort.TheVariants as sort
+use Rattle.iv_recogniser.specs.declared.class.Sort.{Sort}
+use Rattle.iv_recogniser.specs.declared.class.Class.TheVariants as class
+use Rattle.iv_recogniser.specs.declared.class.Sort.TheVariants as sort
 use Rattle.iv_facts.specs.Found.{begins}
 use Rattle.iv_facts.specs.Laws.{clear}
 use Rattle.iv_read.specs.Laws.{Below}

@@ -2,10 +2,10 @@
 use Rattle.std.proofs.Common.{◌≡◌, ℕ, true, false, List, [], ◌∷◌, refl, ◌∙◌, arith, ap}
 use Rattle.std.specs.Prelude.{Option}
 use Rattle.iv_lex.specs.declared.cutting.Token.{Token}
-use Rattle.iv_gram.specs.declared.class.Class.{Class}
-use Rattle.iv_gram.specs.declared.class.Class.TheVariants as class
-use Rattle.iv_gram.specs.declared.class.Sort.TheVariants as sort
-use Rattle.iv_gram.specs.Class.{has, same_class}
+use Rattle.iv_recogniser.specs.declared.class.Class.{Class}
+use Rattle.iv_recogniser.specs.declared.class.Class.TheVariants as class
+use Rattle.iv_recogniser.specs.declared.class.Sort.TheVariants as sort
+use Rattle.iv_recogniser.specs.Class.{has, same_class}
 use Rattle.iv_forms.specs.declared.fact.Fact.{Fact}
 use Rattle.iv_forms.specs.declared.fact.Att.{Att}
 use Rattle.iv_forms.specs.declared.prop.Label.{Label}
@@ -32,12 +32,12 @@ use Rattle.iv_forms.specs.CommandForm as C
 use Rattle.iv_forms.specs.CommandForm.{IsForm}
 use Rattle.iv_facts.specs.Found.{got, then_, begins, one, unless_deep}
 use Rattle.iv_facts.specs.FactLevels.{opt_atts_levels, deep_at, first_of, deep_facts, deep_opt_label, deep_claim, deep_props}
-use Rattle.iv_methods.specs.MethodLevels.{deep_method, deep_opt_method}
+use Rattle.iv_readmethod.specs.MethodLevels.{deep_method, deep_opt_method}
 use Rattle.iv_read.specs.CommandLevels.{deep_axioms, deep_statement, deep_notes, deep_obtained}
 use Rattle.iv_read.specs.FormLevels.{deep_form}
 use Rattle.iv_facts.specs.Facts as F
 use Rattle.iv_facts.specs.Props as P
-use Rattle.iv_methods.specs.Methods as M
+use Rattle.iv_readmethod.specs.Methods as M
 use Rattle.iv_read.specs.Declarations as D
 use Rattle.iv_read.specs.Commands as K
 use Rattle.iv_read.specs.Forms as W

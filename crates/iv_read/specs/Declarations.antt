@@ -1,8 +1,8 @@
 -- How declarations are read. Of this project.
 use Rattle.std.specs.Prelude.{ℕ, List, [], ◌∷◌, if◌then◌else◌, Option, Some, None}
 use Rattle.iv_lex.specs.declared.cutting.Token.{Token}
-use Rattle.iv_gram.specs.declared.class.Class.TheVariants as class
-use Rattle.iv_gram.specs.declared.class.Sort.TheVariants as sort
+use Rattle.iv_recogniser.specs.declared.class.Class.TheVariants as class
+use Rattle.iv_recogniser.specs.declared.class.Sort.TheVariants as sort
 use Rattle.iv_forms.specs.declared.command.Fixity.{Fixity}
 use Rattle.iv_forms.specs.declared.command.Fixity.TheVariants as VFixity
 use Rattle.iv_forms.specs.declared.command.Constant.{Constant}

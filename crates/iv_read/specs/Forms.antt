@@ -1,9 +1,9 @@
 -- How commands are read. Of this project.
 use Rattle.std.specs.Prelude.{List, [], ◌∷◌}
 use Rattle.iv_lex.specs.declared.cutting.Token.{Token}
-use Rattle.iv_gram.specs.declared.class.Class.{Class}
-use Rattle.iv_gram.specs.declared.class.Class.TheVariants as class
-use Rattle.iv_gram.specs.declared.class.Sort.TheVariants as sort
+use Rattle.iv_recogniser.specs.declared.class.Class.{Class}
+use Rattle.iv_recogniser.specs.declared.class.Class.TheVariants as class
+use Rattle.iv_recogniser.specs.declared.class.Sort.TheVariants as sort
 use Rattle.iv_forms.specs.declared.fact.Fact.{Fact}
 use Rattle.iv_forms.specs.declared.prop.Claim.{Claim}
 use Rattle.iv_forms.specs.declared.command.Statement.{Statement}
@@ -15,7 +15,7 @@ use Rattle.iv_read.specs.declared.forms.CommandKind.TheVariants as kind
 use Rattle.iv_facts.specs.Found.{Found, got, wrong, then_, one}
 use Rattle.iv_facts.specs.Facts.{facts}
 use Rattle.iv_facts.specs.Props.{text_of, some_of, opt_label, claim, props, of_type, vars, opt_for}
-use Rattle.iv_methods.specs.Methods.{a_method, opt_method}
+use Rattle.iv_readmethod.specs.Methods.{a_method, opt_method}
 use Rattle.iv_read.specs.Commands.{statement, notes, obtained, parts, axioms, note_name}
 use Rattle.iv_read.specs.Declarations.{some_nat, constant, more_consts, axiom_consts, tvars, judgment_form, equation, more_equations}
 

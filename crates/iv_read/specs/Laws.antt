@@ -1,6 +1,6 @@
 -- What the laws of the forms rely on. Of this project.
 use Rattle.iv_facts.specs.Laws.{SetsAreApart, FactsAreRead, PropsAreRead, NamesAreRead, FormsAreShort, FormsBegin, PlacesAreKept, DeepFactsArePlaced}
-use Rattle.iv_methods.specs.Laws.{MethodsAreRead, MethodsBegin, MethodsKeepPlaces, DeepMethodsArePlaced}
+use Rattle.iv_readmethod.specs.Laws.{MethodsAreRead, MethodsBegin, MethodsKeepPlaces, DeepMethodsArePlaced}
 
 -- what is known of the readers below
 pub record Below : Type 0 where

@@ -11,7 +11,7 @@ use iv_facts::tokens::{begins, behind, one};
 use iv_forms::{
     Axiom, Fact, Group, Items, Lexeme, NoteGroup, Obtained, Parts, Statement, VarGroup,
 };
-use iv_gram::{Class, Sort};
+use iv_recogniser::{Class, Sort};
 use std::alloc::Global;
 
 /// An axiom.

@@ -6,8 +6,8 @@ ghost use Rattle.iv_read.specs.Declarations.{some_nat, infix_parts, binder_parts
 use iv_facts::Stop;
 use iv_facts::tokens::{begins, behind, copied, one, skip};
 use iv_forms::{Constant, Equation, Fixity, Items, Lexeme};
-use iv_gram::{Class, Sort};
 use iv_lex::Token;
+use iv_recogniser::{Class, Sort};
 use std::alloc::Global;
 
 /// A number, or none.

@@ -1,7 +1,7 @@
 //! Commands, by their words.
 ghost use Rattle.std.specs.Prelude.{◌≡◌, IfOk, IfErr};
 ghost use Rattle.iv_facts.specs.Found.{got, wrong, then_, IsStop};
-ghost use Rattle.iv_gram.specs.declared.class.Sort.TheVariants.{Quoted};
+ghost use Rattle.iv_recogniser.specs.declared.class.Sort.TheVariants.{Quoted};
 ghost use Rattle.iv_facts.specs.Facts.{facts};
 ghost use Rattle.iv_facts.specs.Props.{claim, text_of};
 ghost use Rattle.iv_read.specs.Commands.{statement};
@@ -16,9 +16,9 @@ use iv_facts::facts::facts;
 use iv_facts::props::{claim, of_type, opt_for, opt_label, props, some_of, text_of, vars};
 use iv_facts::tokens::one;
 use iv_forms::{Body, Claim, Fact, Items, Lexeme, Statement};
-use iv_gram::{Class, Sort};
 use iv_lex::Token;
-use iv_methods::methods::{a_method, opt_method};
+use iv_readmethod::methods::{a_method, opt_method};
+use iv_recogniser::{Class, Sort};
 use std::alloc::Global;
 
 /// The header, behind its word.

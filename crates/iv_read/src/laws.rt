@@ -13,10 +13,10 @@ use iv_facts::laws::{
     deep_facts_are_placed, facts_are_read, forms_are_short, forms_begin, names_are_read,
     places_are_kept, props_are_read, sets_are_apart,
 };
-use iv_gram::laws::classes_are_their_numbers;
-use iv_methods::laws::{
+use iv_readmethod::laws::{
     deep_methods_are_placed, methods_are_read, methods_begin, methods_keep_places,
 };
+use iv_recogniser::laws::classes_are_their_numbers;
 
 /// What is known of the readers below.
 fn below()

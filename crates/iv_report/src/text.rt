@@ -1,11 +1,10 @@
 //! Writers of the parts of a line: each appends to the characters so far.
-ghost use Rattle.std.specs.Prelude.{◌≡◌, ◌<◌, ◌+◌, ◌++◌, ◌∷◌, [], OnOk, IfOk, IfErr, encode_utf8_all};
+ghost use Rattle.std.specs.Prelude.{◌≡◌, ◌<◌, ◌+◌, ◌++◌, ◌∷◌, [], OnOk, IfErr};
 ghost use Rattle.std.specs.Fmt.{decimal};
 ghost use Rattle.iv_term.specs.declared.want.Want.TheVariants.{Memory};
 ghost use Rattle.iv_report.specs.Text.{only_if, number_text, name_text, place_text};
 
 use iv_term::{Mem, Name, Text};
-use std::alloc::Global;
 
 /// Writes one character. Fails where memory runs out.
 pub fn push_char(line: &mut Vec<char>, c: char) -> Mem<()>
@@ -97,16 +96,4 @@ pub fn push_place(out: &mut Vec<char>, line: u32, column: u32) -> Mem<()>
     push_decimal(out, u64::from(line))?;
     push_char(out, ':')?;
     push_decimal(out, u64::from(column))
-}
-
-/// The text in UTF-8. Fails where memory runs out.
-pub fn encoded(alloc: Global, text: &Text) -> Mem<Vec<u8>>
-    ensures ok { IfOk result (λ v. v.items ≡ encode_utf8_all text.now) }
-    ensures memory { IfErr result (λ w. w ≡ Memory) }
-{
-    let mut out = String::new(alloc);
-    for c in text.as_slice() {
-        out.push(*c)?;
-    }
-    Ok(out.into_bytes())
 }

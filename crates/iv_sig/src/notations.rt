@@ -12,8 +12,7 @@ ghost use Rattle.iv_sig.specs.Table.{look};
 
 use crate::fixity::Fixity;
 use crate::table::Table;
-use iv_map::Copied;
-use iv_term::{Mem, Text};
+use iv_term::{Copied, Mem, Text};
 use std::alloc::Global;
 use std::marker::Model;
 

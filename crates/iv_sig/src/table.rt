@@ -8,8 +8,7 @@ ghost use Rattle.iv_term.specs.declared.want.Want.TheVariants.{Memory};
 ghost use Rattle.iv_sig.specs.Table.{look};
 
 use indexmap::IndexMap;
-use iv_map::Copied;
-use iv_term::{Mem, Text};
+use iv_term::{Copied, Mem, Text};
 use std::alloc::Global;
 use std::marker::Model;
 

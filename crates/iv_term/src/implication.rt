@@ -117,8 +117,8 @@ impl Head {
 }
 
 impl Terms {
-    /// Whether the list has one term.
-    fn is_one(&self) -> bool
+    /// Whether the list has one term. Takes no memory.
+    pub fn is_one(&self) -> bool
         ensures { result ≡ is_one self.now }
     {
         match self {
@@ -127,8 +127,8 @@ impl Terms {
         }
     }
 
-    /// Whether the list has two terms.
-    fn are_two(&self) -> bool
+    /// Whether the list has two terms. Takes no memory.
+    pub fn are_two(&self) -> bool
         ensures { result ≡ are_two self.now }
     {
         match self {

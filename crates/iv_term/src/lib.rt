@@ -4,6 +4,7 @@
 //! compare terms as trees, since children are held by [`Shared`](iv_shared::Shared).
 #![tactic(auto)]
 
+pub mod copied;
 pub mod free;
 pub mod hyps;
 pub mod implication;
@@ -13,6 +14,7 @@ pub mod text;
 pub mod typ;
 pub mod want;
 
+pub use copied::{Copied, copy_of, new_or_copy, new_or_shared};
 pub use name::Name;
 pub use term::{Head, Term, Terms};
 pub use text::Text;

@@ -1,4 +1,4 @@
-ghost use Rattle.std.specs.Prelude.{◌≡◌, IfOk, IfErr, IsTrue, ◌↔◌};
+ghost use Rattle.std.specs.Prelude.{◌≡◌, IfOk, IfErr, IsTrue, ◌↔◌, encode_utf8_all};
 ghost use Rattle.std.specs.Str.{bytes_eq};
 ghost use Rattle.iv_term.specs.declared.want.Want.TheVariants.{Memory};
 
@@ -48,6 +48,18 @@ impl Text {
         ensures { result.now ≡ self.now }
     {
         self.chars.get().as_slice()
+    }
+
+    /// The text in UTF-8. Fails where memory runs out.
+    pub fn to_utf8(&self, alloc: Global) -> Mem<Vec<u8>>
+        ensures ok { IfOk result (λ v. v.items ≡ encode_utf8_all self.now) }
+        ensures memory { IfErr result (λ w. w ≡ Memory) }
+    {
+        let mut out = String::new(alloc);
+        for c in self.as_slice() {
+            out.push(*c)?;
+        }
+        Ok(out.into_bytes())
     }
 
     /// Whether both are the same text.

@@ -1,6 +1,6 @@
 use Rattle.std.proofs.Common.{◌≡◌, ◌+◌, ◌*◌, drop}
-use Rattle.iv_gram.specs.declared.class.Class.TheVariants as class
-use Rattle.iv_gram.specs.declared.class.Sort.TheVariants as sort
+use Rattle.iv_recogniser.specs.declared.class.Class.TheVariants as class
+use Rattle.iv_recogniser.specs.declared.class.Sort.TheVariants as sort
 use Rattle.iv_facts.specs.Found.{begins, behind, many}
 use Rattle.iv_facts.specs.Facts.{fact, goes_place, place_with, places_with, att_with, more_atts_with}
 use Rattle.iv_facts.proofs.facts.+fact.Given as goal

@@ -1,5 +1,5 @@
 use Rattle.std.proofs.Common.{◌≡◌, drop}
-use Rattle.iv_gram.specs.declared.class.Sort.TheVariants as sort
+use Rattle.iv_recogniser.specs.declared.class.Sort.TheVariants as sort
 use Rattle.iv_facts.specs.Found.{begins, many}
 use Rattle.iv_facts.specs.Props.{prop, more_props}
 use Rattle.iv_facts.proofs.props.more_props.Given as goal

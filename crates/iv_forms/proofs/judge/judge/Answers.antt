@@ -1,10 +1,10 @@
 -- The table's verdict on the classes, in words of the forms.
 use Rattle.std.proofs.Common.{List, [], ◌∷◌, ◌∙◌, subst}
-use Rattle.iv_gram.specs.declared.class.Class.{Class}
-use Rattle.iv_gram.specs.declared.part.Part.TheVariants as P
-use Rattle.iv_gram.specs.declared.part.Symbol.TheVariants.{Goes}
-use Rattle.iv_gram.specs.Table.{forms}
-use Rattle.iv_gram.specs.Spell.{Judged}
+use Rattle.iv_recogniser.specs.declared.class.Class.{Class}
+use Rattle.iv_recogniser.specs.declared.part.Part.TheVariants as P
+use Rattle.iv_recogniser.specs.declared.part.Symbol.TheVariants.{Goes}
+use Rattle.iv_recogniser.specs.Table.{forms}
+use Rattle.iv_recogniser.specs.Spell.{Judged}
 use Rattle.iv_forms.specs.Readable.{IsVerdict}
 use Rattle.iv_forms.proofs.Verdicts.{verdict}
 use Rattle.std.proofs.lemmas.Result.{IfOk-weaker}

@@ -1,5 +1,5 @@
 use Rattle.std.proofs.Common.{◌≡◌, false, sym, ◌∙◌}
-use Rattle.iv_gram.specs.declared.class.Class.TheVariants as class
+use Rattle.iv_recogniser.specs.declared.class.Class.TheVariants as class
 use Rattle.iv_outer.specs.Opened.{any_case}
 use Rattle.iv_outer.proofs.OpenSteps.{opened_same}
 use Rattle.iv_outer.proofs.opened.opened.Goals as goal

@@ -1,6 +1,6 @@
 use Rattle.std.proofs.Common.{◌≡◌, drop}
-use Rattle.iv_gram.specs.declared.class.Class.TheVariants as class
-use Rattle.iv_gram.specs.declared.class.Sort.TheVariants as sort
+use Rattle.iv_recogniser.specs.declared.class.Class.TheVariants as class
+use Rattle.iv_recogniser.specs.declared.class.Sort.TheVariants as sort
 use Rattle.iv_facts.specs.Found.{begins, behind, many}
 use Rattle.iv_read.specs.Commands.{note_group, more_notes}
 use Rattle.iv_read.proofs.commands.more_notes.Given as goal

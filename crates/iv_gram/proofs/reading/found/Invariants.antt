@@ -1,7 +1,0 @@
-use Rattle.std.proofs.Common.{◌≡◌, drop}
-use Rattle.iv_gram.specs.Table.{plain}
-use Rattle.iv_gram.specs.Step.{found}
-use Rattle.iv_gram.proofs.reading.found.Given as goal
-
-abbrev pub invariant-loop-row : goal.invariant-loop-row
-invariant-loop-row l = found (plain (drop l.row-index l.rows)) l.class ≡ found (plain l.rows) l.class

@@ -1,8 +1,0 @@
-use Rattle.iv_methods.proofs.MethodPlaces.{method_places, opt_method_places}
-use Rattle.iv_methods.proofs.laws.deep_methods_are_placed.Goals as goal
-
-pub returns : goal.returns
-returns c = record {
-  one = method_places c.below.ensures;
-  opt = opt_method_places c.below.ensures;
-}
