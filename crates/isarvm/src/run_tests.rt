@@ -63,6 +63,13 @@ fn run(
     }
 }
 
+/// `examples/refused.thy`, and what is reported of it.
+const EACH_CAUSE: &str =
+    "claim a: \"PROP A\"\nby assumption\nlemma a: \"PROP A ==> PROP A\" by assumption\nlemma a: \"PROP B ==> PROP B\"\noops\nlemma b: \"PROP A ==> PROP B\"\n  by assumption\nend\noops\nlemma c: \"A ==> A\"\nend\nend\nlemma d: \"PROP A\n";
+
+const EACH_REPORTED: &str =
+    "refused 1:1 ? syntax 1:1\nrefused 2:1 by mode start\ntheorem a: PROP ?A ==> PROP ?A\nrefused 4:1 lemma name a\nrefused 5:1 oops mode theory\nrefused 7:3 by empty\nrefused 8:1 end mode prove\nrefused 10:1 lemma syntax 10:10\nrefused 12:1 end mode ended\nrefused 13:1 lemma syntax 13:10\n";
+
 /// Words, a document, its report and answer, and how many theorems it proves.
 type Row<'a> = (&'a str, &'a str, &'a str, Status, usize);
 
@@ -122,7 +129,13 @@ fn documents(rt: HostRuntime) {
             Status::Refused,
             1,
         ),
-        ("check", "lemma a: \"PROP A", unclosed, Status::Refused, 0),
+        (
+            "check",
+            "lemma a: \"PROP A by assumption\nend\n",
+            unclosed,
+            Status::Refused,
+            0,
+        ),
         ("check", "lemma a: (* x", unclosed, Status::Refused, 0),
         ("check", "lemma a: \\<open>A", unclosed, Status::Refused, 0),
         (
@@ -141,18 +154,12 @@ fn documents(rt: HostRuntime) {
         ),
         (
             "check",
-            "theory T imports Pure Main begin",
-            "refused 1:1 theory name Main\n",
+            "theory A imports Main begin\ntheory A imports Pure begin\ntext \"two names\"\ntheorem t: \"PROP A\"\nend\n",
+            "refused 1:1 theory name Main\nrefused 4:1 theorem syntax 4:1\n",
             Status::Refused,
             0,
         ),
-        (
-            "check",
-            "theorem a: \"PROP A ==> PROP A\"",
-            "refused 1:1 theorem syntax 1:1\n",
-            Status::Refused,
-            0,
-        ),
+        ("check", EACH_CAUSE, EACH_REPORTED, Status::Refused, 1),
         ("run", THREE, "", Status::Usage, 0),
         ("", THREE, "", Status::Usage, 0),
     ];
