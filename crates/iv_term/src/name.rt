@@ -11,7 +11,9 @@ use std::hash::{Hash, Hasher};
 /// A text and a number, which tells names of one text apart.
 #[derive(Drop)]
 pub struct Name {
+    /// What is written.
     pub text: Text,
+    /// 0 where none is written.
     pub number: u32,
 }
 

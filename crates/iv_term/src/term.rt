@@ -36,7 +36,9 @@ impl Drop for Head {
 #[derive(Drop)]
 #[cycle(term)]
 pub enum Term {
+    /// An abstraction: the type of its variable, and its body.
     Abs(Typ, Shared<Term>),
+    /// A head with its arguments.
     Spine(Head, Terms),
 }
 
@@ -44,7 +46,9 @@ pub enum Term {
 #[derive(Drop)]
 #[cycle(term)]
 pub enum Terms {
+    /// No term.
     Nil,
+    /// The first term, and the others.
     Cons(Shared<Term>, Shared<Terms>),
 }
 

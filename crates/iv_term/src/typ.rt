@@ -12,7 +12,7 @@ use std::alloc::Global;
 #[derive(Drop)]
 #[cycle(typ)]
 pub enum Typ {
-    /// A constructor with its arguments: `prop`, or `fun` with two.
+    /// A declared constructor with its arguments, as `prop` with none and `fun` with two.
     Con(Text, Types),
     /// A fixed type variable.
     Fixed(Text),
@@ -24,7 +24,9 @@ pub enum Typ {
 #[derive(Drop)]
 #[cycle(typ)]
 pub enum Types {
+    /// No type.
     Nil,
+    /// The first type, and the others.
     Cons(Shared<Typ>, Shared<Types>),
 }
 
