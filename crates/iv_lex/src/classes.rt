@@ -7,14 +7,14 @@ use unicode_ident::{is_xid_continue, is_xid_start};
 
 impl Letter {
     /// Whether it is this character.
-    pub fn is(self, c: char) -> bool
+    pub(crate) fn is(self, c: char) -> bool
         ensures { result ≡ is_char c self }
     {
         self.value.is_some_and(|d| d == c)
     }
 
     /// Whether it is a space, tab, line feed or carriage return.
-    pub fn is_blank(self) -> bool
+    pub(crate) fn is_blank(self) -> bool
         ensures { result ≡ is_blank self }
     {
         self.value
@@ -22,7 +22,7 @@ impl Letter {
     }
 
     /// Whether it may begin an identifier: a character of XID_Start but U+03BB.
-    pub fn is_start(self) -> bool
+    pub(crate) fn is_start(self) -> bool
         ensures { result ≡ is_start self }
     {
         self.value
@@ -30,7 +30,7 @@ impl Letter {
     }
 
     /// Whether it may go on with an identifier: a character of XID_Continue or `'`, but U+03BB.
-    pub fn is_continue(self) -> bool
+    pub(crate) fn is_continue(self) -> bool
         ensures { result ≡ is_continue self }
     {
         self.value
@@ -38,21 +38,21 @@ impl Letter {
     }
 
     /// Whether it is a digit, 0 to 9.
-    pub fn is_digit(self) -> bool
+    pub(crate) fn is_digit(self) -> bool
         ensures { result ≡ is_digit self }
     {
         self.value.is_some_and(|c| c.is_ascii_digit())
     }
 
     /// Whether it is an ASCII letter.
-    pub fn is_alpha(self) -> bool
+    pub(crate) fn is_alpha(self) -> bool
         ensures { result ≡ is_alpha self }
     {
         self.value.is_some_and(|c| c.is_ascii_alphabetic())
     }
 
     /// Whether it may stand in a run of symbols: one of `! # $ % & * + - / < = > ? @ ^ _ | ~`.
-    pub fn is_symbolic(self) -> bool
+    pub(crate) fn is_symbolic(self) -> bool
         ensures { result ≡ is_symbolic self }
     {
         self.value.is_some_and(|c| {
@@ -80,14 +80,14 @@ impl Letter {
     }
 
     /// Whether it is a character of the table of symbols.
-    pub fn is_sign(self) -> bool
+    pub(crate) fn is_sign(self) -> bool
         ensures { result ≡ is_sign self }
     {
         self.value.is_some_and(|c| spelling(c).is_some())
     }
 
     /// Whether it is a delimiter: one of `( ) [ ] { } , ; : .`.
-    pub fn is_single(self) -> bool
+    pub(crate) fn is_single(self) -> bool
         ensures { result ≡ is_single self }
     {
         self.value.is_some_and(|c| {

@@ -53,22 +53,37 @@ pub struct Token {
     pub end: Pos,
 }
 
+impl Token {
+    /// An equal token, which shares its text. Takes no memory; fails where the count of owners is full.
+    pub fn copy(&self) -> Mem<Token>
+        ensures ok { IfOk result (λ t. t ≡ self.now) }
+        ensures memory { IfErr result (λ w. w ≡ Memory) }
+    {
+        Ok(Token {
+            kind: self.kind,
+            text: self.text.copy()?,
+            at: self.at,
+            end: self.end,
+        })
+    }
+}
+
 /// Whether all of the letters are characters.
-pub fn all_chars(letters: &[Letter]) -> bool
+pub(crate) fn all_chars(letters: &[Letter]) -> bool
     ensures { result ≡ all_chars letters.now }
 {
     letters.iter().all(|letter| letter.value.is_some())
 }
 
 /// Whether a dot is among the letters.
-pub fn has_dot(letters: &[Letter]) -> bool
+pub(crate) fn has_dot(letters: &[Letter]) -> bool
     ensures { result ≡ list_any (is_char 46) letters.now }
 {
     letters.iter().any(|letter| letter.is('.'))
 }
 
 /// The kind of the token that these letters are, of a form that is closed. `None` where they are a blank or a comment.
-pub fn kind_by(start: Start, letters: &[Letter]) -> Option<Kind>
+pub(crate) fn kind_by(start: Start, letters: &[Letter]) -> Option<Kind>
     ensures { result ≡ kind_by start letters.now }
 {
     match start {
@@ -88,7 +103,7 @@ pub fn kind_by(start: Start, letters: &[Letter]) -> Option<Kind>
 
 /// The kind of the token at the front, `None` where a blank or a comment stands there, and how many letters it takes.
 #[tactic(auto, unfolding(crate::specs::Token::kind_at, crate::specs::Token::count_at))]
-pub fn front(letters: &[Letter]) -> (Option<Kind>, usize)
+pub(crate) fn front(letters: &[Letter]) -> (Option<Kind>, usize)
     requires { 0 < length letters.now }
     ensures kind { result.0 ≡ kind_at letters.now }
     ensures count { result.1 ≡ count_at letters.now }
@@ -103,7 +118,7 @@ pub fn front(letters: &[Letter]) -> (Option<Kind>, usize)
 }
 
 /// Where the first of some letters begins.
-pub fn first_at(letters: &[Letter]) -> Pos
+pub(crate) fn first_at(letters: &[Letter]) -> Pos
     ensures { result ≡ first_at letters.now }
 {
     match letters {
@@ -113,7 +128,7 @@ pub fn first_at(letters: &[Letter]) -> Pos
 }
 
 /// Where the last of some letters ends.
-pub fn last_end(letters: &[Letter]) -> Pos
+pub(crate) fn last_end(letters: &[Letter]) -> Pos
     ensures { result ≡ last_end letters.now }
 {
     let count = letters.len();
@@ -125,7 +140,7 @@ pub fn last_end(letters: &[Letter]) -> Pos
 
 /// The token of this kind that is made of some letters. Fails where memory runs out.
 #[tactic(auto, unfolding(crate::specs::Token::token_of))]
-pub fn token_of(alloc: Global, kind: Kind, letters: &[Letter]) -> Mem<Token>
+pub(crate) fn token_of(alloc: Global, kind: Kind, letters: &[Letter]) -> Mem<Token>
     ensures ok { IfOk result (λ t. t ≡ token_of kind letters.now) }
     ensures memory { IfErr result (λ w. w ≡ Memory) }
 {
@@ -140,7 +155,7 @@ pub fn token_of(alloc: Global, kind: Kind, letters: &[Letter]) -> Mem<Token>
 }
 
 /// Puts the token that is made of some letters behind the others, if one is. Fails where memory runs out.
-pub fn push_token(
+pub(crate) fn push_token(
     alloc: Global,
     found: &mut Vec<Token>,
     kind: Option<Kind>,
@@ -156,7 +171,7 @@ pub fn push_token(
 }
 
 /// The tokens of some letters, in order. Fails where memory runs out.
-pub fn cut(alloc: Global, letters: &[Letter]) -> Mem<Vec<Token>>
+pub(crate) fn cut(alloc: Global, letters: &[Letter]) -> Mem<Vec<Token>>
     ensures ok { IfOk result (λ v. v.items ≡ tokens_from 0 letters.now) }
     ensures memory { IfErr result (λ w. w ≡ Memory) }
 {

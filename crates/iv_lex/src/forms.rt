@@ -5,7 +5,7 @@ ghost use Rattle.iv_lex.specs.Form.{alphas, digits_more, first_is, goes_on, iden
 use crate::letters::{Letter, rest_from};
 
 /// Whether these ASCII characters stand first.
-pub fn spells(word: &[u8], letters: &[Letter]) -> bool
+pub(crate) fn spells(word: &[u8], letters: &[Letter]) -> bool
     ensures same { result ≡ spells word.now letters.now }
     ensures fits { IsTrue result → length word.now ≤ length letters.now }
 {
@@ -19,7 +19,7 @@ pub fn spells(word: &[u8], letters: &[Letter]) -> bool
 }
 
 /// Whether a symbol `\\<name>` stands first.
-pub fn is_named(letters: &[Letter]) -> bool
+pub(crate) fn is_named(letters: &[Letter]) -> bool
     ensures same { result ≡ is_named letters.now }
     ensures fits { IsTrue result → 3 + alphas (drop 2 letters.now) ≤ length letters.now }
 {
@@ -30,7 +30,7 @@ pub fn is_named(letters: &[Letter]) -> bool
 }
 
 /// Whether a name of ASCII letters and then a `>` stand first.
-pub fn is_bracketed(letters: &[Letter]) -> bool
+pub(crate) fn is_bracketed(letters: &[Letter]) -> bool
     ensures same { result ≡ (first_is is_alpha letters.now && first_is (is_char 62) (drop (alphas letters.now) letters.now)) }
     ensures fits { IsTrue result → 1 + alphas letters.now ≤ length letters.now }
 {
@@ -39,7 +39,7 @@ pub fn is_bracketed(letters: &[Letter]) -> bool
 }
 
 /// Whether the first letter is an ASCII letter.
-pub fn first_alpha(letters: &[Letter]) -> bool
+pub(crate) fn first_alpha(letters: &[Letter]) -> bool
     ensures { result ≡ first_is is_alpha letters.now }
 {
     match letters {
@@ -49,7 +49,7 @@ pub fn first_alpha(letters: &[Letter]) -> bool
 }
 
 /// Whether the first letter is this character.
-pub fn starts_with(letters: &[Letter], c: char) -> bool
+pub(crate) fn starts_with(letters: &[Letter], c: char) -> bool
     ensures same { result ≡ first_is (is_char c) letters.now }
     ensures fits { IsTrue result → 1 ≤ length letters.now }
 {
@@ -60,7 +60,7 @@ pub fn starts_with(letters: &[Letter], c: char) -> bool
 }
 
 /// How many of the letters go on with an identifier.
-pub fn ident_more(letters: &[Letter]) -> usize
+pub(crate) fn ident_more(letters: &[Letter]) -> usize
     ensures more { result ≡ ident_more letters.now }
     ensures within { result ≤ length letters.now }
 {
@@ -71,7 +71,7 @@ pub fn ident_more(letters: &[Letter]) -> usize
 }
 
 /// How many of the letters are digits.
-pub fn digits_more(letters: &[Letter]) -> usize
+pub(crate) fn digits_more(letters: &[Letter]) -> usize
     ensures more { result ≡ digits_more letters.now }
     ensures within { result ≤ length letters.now }
 {
@@ -82,7 +82,7 @@ pub fn digits_more(letters: &[Letter]) -> usize
 }
 
 /// How many of the letters go on with a run of symbols.
-pub fn symbols_more(letters: &[Letter]) -> usize
+pub(crate) fn symbols_more(letters: &[Letter]) -> usize
     ensures more { result ≡ symbols_more letters.now }
     ensures within { result ≤ length letters.now }
 {
@@ -93,7 +93,7 @@ pub fn symbols_more(letters: &[Letter]) -> usize
 }
 
 /// How many of the letters are ASCII letters, as in a symbol's name.
-pub fn alphas(letters: &[Letter]) -> usize
+pub(crate) fn alphas(letters: &[Letter]) -> usize
     ensures more { result ≡ alphas letters.now }
     ensures within { result ≤ length letters.now }
 {
@@ -104,7 +104,7 @@ pub fn alphas(letters: &[Letter]) -> usize
 }
 
 /// Whether a name goes on with the first letter.
-pub fn goes_on(letters: &[Letter]) -> bool
+pub(crate) fn goes_on(letters: &[Letter]) -> bool
     ensures { result ≡ goes_on letters.now }
 {
     match letters {
@@ -115,7 +115,7 @@ pub fn goes_on(letters: &[Letter]) -> bool
 }
 
 /// How many of the letters go on with a name: letters of identifiers, and dots between two of them.
-pub fn name_more(letters: &[Letter]) -> usize
+pub(crate) fn name_more(letters: &[Letter]) -> usize
     ensures more { result ≡ name_more letters.now }
     ensures within { result ≤ length letters.now }
 {
@@ -130,7 +130,7 @@ pub fn name_more(letters: &[Letter]) -> usize
 }
 
 /// How many of the letters are a dot and a number behind it: none where no digit follows the dot.
-pub fn number_more(letters: &[Letter]) -> usize
+pub(crate) fn number_more(letters: &[Letter]) -> usize
     ensures more { result ≡ number_more letters.now }
     ensures within { result ≤ length letters.now }
 {
@@ -142,7 +142,7 @@ pub fn number_more(letters: &[Letter]) -> usize
 }
 
 /// How many of the letters behind a `?` go on with a variable: an identifier, and a dot and a number where they follow.
-pub fn var_more(letters: &[Letter]) -> usize
+pub(crate) fn var_more(letters: &[Letter]) -> usize
     ensures more { result ≡ var_more letters.now }
     ensures within { result ≤ length letters.now }
 {
@@ -151,21 +151,21 @@ pub fn var_more(letters: &[Letter]) -> usize
 }
 
 /// Whether a letter of a string ends it, where a backslash escapes it or not.
-pub fn closes(escaped: bool, letter: Letter) -> bool
+pub(crate) fn closes(escaped: bool, letter: Letter) -> bool
     ensures { result ≡ (not escaped && is_char 34 letter) }
 {
     !escaped && letter.is('"')
 }
 
 /// Whether a letter of a string escapes the next, where a backslash escapes it itself or not.
-pub fn escapes(escaped: bool, letter: Letter) -> bool
+pub(crate) fn escapes(escaped: bool, letter: Letter) -> bool
     ensures { result ≡ (not escaped && is_char 92 letter) }
 {
     !escaped && letter.is('\\')
 }
 
 /// How many of the letters behind a `"` belong to the string, its last `"` among them. `None` where it isn't closed.
-pub fn string_more(letters: &[Letter]) -> Option<usize>
+pub(crate) fn string_more(letters: &[Letter]) -> Option<usize>
     ensures more { result ≡ string_from false letters.now }
     ensures within { IfSome result (λ n. n ≤ length letters.now) }
 {

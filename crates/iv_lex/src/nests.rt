@@ -15,7 +15,7 @@ pub enum Nest {
 
 impl Nest {
     /// How many letters an opening takes at the front, or 0 where none stands there.
-    pub fn opening(self, letters: &[Letter]) -> usize
+    pub(crate) fn opening(self, letters: &[Letter]) -> usize
         ensures length { result ≡ opening self letters.now }
         ensures within { result ≤ length letters.now }
     {
@@ -28,7 +28,7 @@ impl Nest {
     }
 
     /// How many letters a closing takes at the front, or 0 where none stands there.
-    pub fn closing(self, letters: &[Letter]) -> usize
+    pub(crate) fn closing(self, letters: &[Letter]) -> usize
         ensures length { result ≡ closing self letters.now }
         ensures within { result ≤ length letters.now }
     {
@@ -41,7 +41,7 @@ impl Nest {
     }
 
     /// How many letters the bracket at the front takes, or the letter where no bracket stands there.
-    pub fn front(self, letters: &[Letter]) -> usize
+    pub(crate) fn front(self, letters: &[Letter]) -> usize
         requires { 0 < length letters.now }
         ensures length { result ≡ front self letters.now }
         ensures within { result ≤ length letters.now }
@@ -59,7 +59,7 @@ impl Nest {
     }
 
     /// How many brackets stand open behind the front, where `depth` stand open before it.
-    pub fn depth_after(self, depth: usize, letters: &[Letter]) -> usize
+    pub(crate) fn depth_after(self, depth: usize, letters: &[Letter]) -> usize
         requires { depth < 2 ^ 64 - 1 }
         ensures depth { result ≡ depth_after self depth letters.now }
         ensures one_more { result ≤ depth + 1 }
@@ -74,7 +74,7 @@ impl Nest {
     }
 
     /// Whether the front closes the only bracket that stands open.
-    pub fn is_last(self, depth: usize, letters: &[Letter]) -> bool
+    pub(crate) fn is_last(self, depth: usize, letters: &[Letter]) -> bool
         requires { depth < 2 ^ 64 - 1 }
         ensures { result ≡ is_last self depth letters.now }
     {
@@ -83,7 +83,7 @@ impl Nest {
 }
 
 /// How many letters go from the opening at the front to its closing, both among them. `None` where it isn't closed.
-pub fn nested_length(nest: Nest, letters: &[Letter]) -> Option<usize>
+pub(crate) fn nested_length(nest: Nest, letters: &[Letter]) -> Option<usize>
     ensures length { result ≡ nested_from nest 0 0 letters.now }
     ensures within { IfSome result (λ n. n ≤ length letters.now) }
     ensures some { IfSome result (λ n. 0 < n) }

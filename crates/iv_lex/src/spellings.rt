@@ -12,7 +12,7 @@ use iv_term::Mem;
 use std::alloc::Global;
 
 /// The characters of some letters. Fails where memory runs out.
-pub fn chars_of(alloc: Global, letters: &[Letter]) -> Mem<Vec<char>>
+pub(crate) fn chars_of(alloc: Global, letters: &[Letter]) -> Mem<Vec<char>>
     ensures ok { IfOk result (λ v. v.items ≡ chars_of letters.now) }
     ensures memory { IfErr result (λ w. w ≡ Memory) }
 {
@@ -24,7 +24,7 @@ pub fn chars_of(alloc: Global, letters: &[Letter]) -> Mem<Vec<char>>
 }
 
 /// The characters of an ASCII text. Fails where memory runs out.
-pub fn ascii_chars(alloc: Global, text: &str) -> Mem<Vec<char>>
+pub(crate) fn ascii_chars(alloc: Global, text: &str) -> Mem<Vec<char>>
     ensures ok { IfOk result (λ v. v.items ≡ text.now) }
     ensures memory { IfErr result (λ w. w ≡ Memory) }
 {
@@ -36,7 +36,7 @@ pub fn ascii_chars(alloc: Global, text: &str) -> Mem<Vec<char>>
 }
 
 /// Whether a quote or a backslash stands first.
-pub fn is_escapable(chars: &[char]) -> bool
+pub(crate) fn is_escapable(chars: &[char]) -> bool
     ensures { result ≡ is_escapable chars.now }
 {
     match chars {
@@ -46,7 +46,7 @@ pub fn is_escapable(chars: &[char]) -> bool
 }
 
 /// Whether the first character is a backslash that escapes the next, where it is escaped itself or not.
-pub fn is_escape(escaped: bool, chars: &[char]) -> bool
+pub(crate) fn is_escape(escaped: bool, chars: &[char]) -> bool
     ensures { result ≡ is_escape escaped chars.now }
 {
     match chars {
@@ -56,7 +56,7 @@ pub fn is_escape(escaped: bool, chars: &[char]) -> bool
 }
 
 /// Puts the character behind the text, unless it is to fall away. Fails where memory runs out.
-pub fn push_unless(text: &mut Vec<char>, c: char, falls: bool) -> Mem<()>
+pub(crate) fn push_unless(text: &mut Vec<char>, c: char, falls: bool) -> Mem<()>
     ensures ok { OnOk result (text.new.items ≡ (if falls then text.old.items else text.old.items ++ c ∷ [])) }
     ensures memory { IfErr result (λ w. w ≡ Memory) }
 {
@@ -67,7 +67,7 @@ pub fn push_unless(text: &mut Vec<char>, c: char, falls: bool) -> Mem<()>
 }
 
 /// A string's text: a backslash directly before a quote or a backslash falls away. Fails where memory runs out.
-pub fn unescaped(alloc: Global, chars: &[char]) -> Mem<Vec<char>>
+pub(crate) fn unescaped(alloc: Global, chars: &[char]) -> Mem<Vec<char>>
     ensures ok { IfOk result (λ v. v.items ≡ unescaped false chars.now) }
     ensures memory { IfErr result (λ w. w ≡ Memory) }
 {
@@ -83,7 +83,7 @@ pub fn unescaped(alloc: Global, chars: &[char]) -> Mem<Vec<char>>
 }
 
 /// Whether these letters are a symbol, by its spelling in ASCII or by its character.
-pub fn is_symbol(letters: &[Letter], ascii: &[u8], character: char) -> bool
+pub(crate) fn is_symbol(letters: &[Letter], ascii: &[u8], character: char) -> bool
     ensures { result ≡ (spells ascii.now letters.now || first_is (is_char character) letters.now) }
 {
     spells(ascii, letters) || starts_with(letters, character)
@@ -91,7 +91,7 @@ pub fn is_symbol(letters: &[Letter], ascii: &[u8], character: char) -> bool
 
 /// The printed spelling of the symbol that these letters are. `None` where the table of symbols has no row for them.
 #[tactic(auto, unfolding(crate::specs::Spelling::printed_symbol))]
-pub fn printed_symbol(letters: &[Letter]) -> Option<&'static str>
+pub(crate) fn printed_symbol(letters: &[Letter]) -> Option<&'static str>
     ensures { MatchOption result (printed_symbol letters.now ≡ None) (λ s. printed_symbol letters.now ≡ Some s.now) }
 {
     if is_symbol(letters, b"\\<And>".as_slice(), '\u{22C0}') {
@@ -120,7 +120,7 @@ pub fn printed_symbol(letters: &[Letter]) -> Option<&'static str>
 }
 
 /// How many letters the closing takes at the end of a cartouche.
-pub fn ending(letters: &[Letter]) -> usize
+pub(crate) fn ending(letters: &[Letter]) -> usize
     ensures { result ≡ ending letters.now }
 {
     let last = letters.len().saturating_sub(1);
@@ -132,7 +132,7 @@ pub fn ending(letters: &[Letter]) -> usize
 }
 
 /// Some letters without so many in front and so many at the end.
-pub fn inner(letters: &[Letter], front: usize, back: usize) -> &[Letter]
+pub(crate) fn inner(letters: &[Letter], front: usize, back: usize) -> &[Letter]
     ensures { result.now ≡ inner front back letters.now }
 {
     let kept = first_items(letters, letters.len().saturating_sub(back));
@@ -144,7 +144,7 @@ pub fn inner(letters: &[Letter], front: usize, back: usize) -> &[Letter]
 }
 
 /// The text of a token of this kind and these letters. Fails where memory runs out.
-pub fn text_of(alloc: Global, kind: Kind, letters: &[Letter]) -> Mem<Vec<char>>
+pub(crate) fn text_of(alloc: Global, kind: Kind, letters: &[Letter]) -> Mem<Vec<char>>
     ensures ok { IfOk result (λ v. v.items ≡ text_of kind letters.now) }
     ensures memory { IfErr result (λ w. w ≡ Memory) }
 {
@@ -161,7 +161,7 @@ pub fn text_of(alloc: Global, kind: Kind, letters: &[Letter]) -> Mem<Vec<char>>
 }
 
 /// The text of a string with these letters. Fails where memory runs out.
-pub fn string_text(alloc: Global, letters: &[Letter]) -> Mem<Vec<char>>
+pub(crate) fn string_text(alloc: Global, letters: &[Letter]) -> Mem<Vec<char>>
     ensures ok { IfOk result (λ v. v.items ≡ unescaped false (chars_of (inner 1 1 letters.now))) }
     ensures memory { IfErr result (λ w. w ≡ Memory) }
 {
@@ -170,7 +170,7 @@ pub fn string_text(alloc: Global, letters: &[Letter]) -> Mem<Vec<char>>
 }
 
 /// The text of a symbol with these letters: its printed spelling. Fails where memory runs out.
-pub fn symbol_text(alloc: Global, letters: &[Letter]) -> Mem<Vec<char>>
+pub(crate) fn symbol_text(alloc: Global, letters: &[Letter]) -> Mem<Vec<char>>
     ensures ok { IfOk result (λ v. v.items ≡ unwrap_or (printed_symbol letters.now) (chars_of letters.now)) }
     ensures memory { IfErr result (λ w. w ≡ Memory) }
 {

@@ -43,7 +43,7 @@ pub enum Start {
 
 impl Start {
     /// This, or the other where this is nothing.
-    pub fn or_else(self, other: Start) -> Start
+    pub(crate) fn or_else(self, other: Start) -> Start
         ensures { result ≡ or_else self other }
     {
         match self {
@@ -53,7 +53,7 @@ impl Start {
     }
 
     /// How many letters what begins at the front takes, at most. `None` where it has a closing and isn't closed.
-    pub fn measured(self, letters: &[Letter]) -> Option<usize>
+    pub(crate) fn measured(self, letters: &[Letter]) -> Option<usize>
         requires start { self ≡ start_at letters.now }
         requires some { 0 < length letters.now }
         ensures length { result ≡ measured self letters.now }
@@ -78,7 +78,7 @@ impl Start {
 }
 
 /// Whether this character and then the start of an identifier stand first.
-pub fn is_mark(letters: &[Letter], c: char) -> bool
+pub(crate) fn is_mark(letters: &[Letter], c: char) -> bool
     ensures { result ≡ is_mark c letters.now }
 {
     match letters {
@@ -88,7 +88,7 @@ pub fn is_mark(letters: &[Letter], c: char) -> bool
 }
 
 /// What begins here, where it has a closing.
-pub fn closed_start(letters: &[Letter]) -> Start
+pub(crate) fn closed_start(letters: &[Letter]) -> Start
     ensures { result ≡ closed_start letters.now }
 {
     if spells(b"(*".as_slice(), letters) {
@@ -103,7 +103,7 @@ pub fn closed_start(letters: &[Letter]) -> Start
 }
 
 /// What begins here, where it has an identifier or a number.
-pub fn word_start(letters: &[Letter]) -> Start
+pub(crate) fn word_start(letters: &[Letter]) -> Start
     ensures { result ≡ word_start letters.now }
 {
     match letters {
@@ -116,7 +116,7 @@ pub fn word_start(letters: &[Letter]) -> Start
 }
 
 /// What begins here, where it is a symbol or a delimiter.
-pub fn sign_start(letters: &[Letter]) -> Start
+pub(crate) fn sign_start(letters: &[Letter]) -> Start
     ensures { result ≡ sign_start letters.now }
 {
     let doubled = spells(b"::".as_slice(), letters) || spells(b"..".as_slice(), letters);
@@ -131,7 +131,7 @@ pub fn sign_start(letters: &[Letter]) -> Start
 }
 
 /// What begins here.
-pub fn start_at(letters: &[Letter]) -> Start
+pub(crate) fn start_at(letters: &[Letter]) -> Start
     ensures { result ≡ start_at letters.now }
 {
     match letters {

@@ -8,6 +8,7 @@ fn listed(alloc: Global, document: &[u8]) -> Result<String, Fail> {
     let mut out = String::new(alloc);
     if document.len() <= 4_194_304 {
         for token in &tokens(alloc, document)? {
+            let token = token.copy()?;
             let kind = token.kind;
             let at = token.at.0;
             let end = token.end.0;
