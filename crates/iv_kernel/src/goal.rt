@@ -10,6 +10,7 @@ ghost use Rattle.iv_rules.specs.Sequent.{IsProp};
 ghost use Rattle.iv_kernel.specs.Goal.{goal_prop, premises_of, IsInForm, AreInForm, IsGoal, made_forms};
 
 use crate::thm::Thm;
+use iv_equations::conditions;
 use iv_hsub::hhf;
 use iv_hsub::laws::hhf_is_a_normal_form;
 use iv_rules::laws::hypotheses_are_told_apart;
@@ -57,6 +58,13 @@ impl Goal {
         hhf_is_a_normal_form();
         let thm = form_implies(alloc, claim)?;
         Goal::made(thm, 1, claim)
+    }
+
+    /// Whether the condition of [`init`](Goal::init) holds. Takes no memory.
+    pub fn can_init(claim: &Term) -> bool
+        ensures { IsTrue result ↔ IsProp claim.now }
+    {
+        conditions::is_prop(claim)
     }
 
     /// A theorem whose proposition is `S1 ==> .. ==> Sn ==> claim`, as a goal with n subgoals, in each of which every `!!`

@@ -1,12 +1,14 @@
 //! A proof is written as a text, a letter for each step, which is read from the first on.
 //!
 //! A letter for a term puts it in front of those before: a variable `A` to `C`, a bound `0`, a schematic `?`, all of type
-//! `prop`, or `t ==> u` for `>`, `t == u` for `~` and `!!x. u` for `!`, where u is taken from the front, and then t.
+//! `prop`, or `t ==> u` for `>`, `t == u` for `~` and `!!x. u` for `!`, where u is taken from the front, and then t. `$` is
+//! the schematic of `?`'s name that takes a `prop`, at the term in front.
 //!
 //! A letter for a rule adds a theorem, which is made of the term in front and the last one or two theorems: `x` an axiom,
-//! `h` assume, `r` refl, `i` imp_intr, `v` all_elim, `n` conv, `s` sym, `q` all_intr and `l` abs over `A`, `p` inst of `A`
-//! by `B`, `g` a goal turned round, `m` imp_elim, `e` eq_intr, `w` eq_elim, `t` trans, `k` comb. Its condition is tested
-//! first. The capital says that the rule is refused, and adds nothing. Other signs ask for the last theorem (`holds`).
+//! `h` assume, `r` refl, `u` that of a goal of one subgoal, `i` imp_intr, `v` all_elim, `n` conv, `s` sym, `q` all_intr and
+//! `l` abs over `A`, `p` inst of `A` by `B`, `g` a goal turned round, `m` imp_elim, `e` eq_intr, `w` eq_elim, `t` trans, `k`
+//! comb. Its condition is tested first. The capital says that the rule is refused, and adds nothing. Other signs ask for
+//! the last theorem (`holds`).
 use crate::*;
 use iv_rules::{FixedTypes, Instance, SchematicTypes, VarTerms};
 use iv_shared::Shared;
@@ -72,12 +74,20 @@ fn eq(rt: &impl Abort, alloc: Global, s: &Term, t: &Term) -> Term {
     got(rt, iv_equations::terms::eq(alloc, &typ, s, t))
 }
 
+/// The schematic of `?`'s name that takes a `prop`, at a term.
+fn at(rt: &impl Abort, alloc: Global, t: &Term) -> Term {
+    let typ = got(rt, Typ::fun(alloc, prop(rt, alloc), prop(rt, alloc)));
+    let head = Head::Schematic(name(rt, alloc, '?'), typ);
+    Term::Spine(head, got(rt, Terms::only(alloc, t)))
+}
+
 /// A term of the one or two in front, in their place.
 fn compound(rt: &impl Abort, alloc: Global, letter: char, terms: &Terms) -> Terms {
     let first = front(rt, terms);
     let rest = behind(rt, terms);
     let (made, rest) = match letter {
         '!' => (all(rt, alloc, first), rest),
+        '$' => (at(rt, alloc, first), rest),
         '~' => (eq(rt, alloc, front(rt, rest), first), behind(rt, rest)),
         _ => (
             got(rt, Term::imp(alloc, front(rt, rest), first)),
@@ -90,7 +100,7 @@ fn compound(rt: &impl Abort, alloc: Global, letter: char, terms: &Terms) -> Term
 fn read(rt: &impl Abort, alloc: Global, letter: char, terms: Terms) -> Terms {
     match letter {
         'A' | 'B' | 'C' | '0' | '?' => got(rt, Terms::cons(alloc, atom(rt, alloc, letter), terms)),
-        '>' | '~' | '!' => compound(rt, alloc, letter, &terms),
+        '>' | '~' | '!' | '$' => compound(rt, alloc, letter, &terms),
         _ => terms,
     }
 }
@@ -149,12 +159,36 @@ fn goal_of_two(rt: &impl Abort, alloc: Global, claim: &Term, t: &Thm) -> Goal {
     got(rt, Goal::made(thm, 2, claim))
 }
 
+/// Whether two goals of two subgoals have the same ones, one claim and one proposition.
+fn are_one(a: &Goal, b: &Goal) -> bool {
+    if a.count() != 2 || b.count() != 2 {
+        return false;
+    }
+    let same_first = a.subgoal(1).is(b.subgoal(1));
+    let same_second = a.subgoal(2).is(b.subgoal(2));
+    same_first && same_second && a.claim().is(b.claim()) && a.thm().prop().is(b.thm().prop())
+}
+
+fn is_copied(rt: &impl Abort, goal: &Goal) -> bool {
+    let copy = got(rt, goal.copy());
+    are_one(&copy, goal)
+}
+
 /// A theorem as a goal of two subgoals, with the first of them behind the second.
 fn turned(rt: &impl Abort, alloc: Global, claim: &Term, t: &Thm) -> Thm {
     let goal = goal_of_two(rt, alloc, claim, t);
+    assert!(rt; is_copied(rt, &goal));
     assert_eq!(rt; goal.count(), 2);
     let goal = got(rt, goal.rotate(alloc, 1, 2));
     assert!(rt; goal.count() == 2 && goal.claim().is(claim));
+    got(rt, goal.thm().copy())
+}
+
+/// The theorem of a goal with the claim as its only subgoal.
+fn begun(rt: &impl Abort, alloc: Global, claim: &Term) -> Thm {
+    assert!(rt; Goal::can_init(claim));
+    let goal = got(rt, Goal::init(alloc, claim));
+    assert!(rt; goal.count() == 1 && goal.claim().is(claim));
     got(rt, goal.thm().copy())
 }
 
@@ -168,6 +202,7 @@ fn of_term(rt: &impl Abort, g: &Given, letter: char, a: &Term) -> Thm {
             assert!(rt; Thm::can_refl(a));
             got(rt, Thm::refl(g.alloc, a))
         }
+        'u' => begun(rt, g.alloc, a),
         _ => {
             assert!(rt; Thm::can_axiom(&g.sig, &g.axiom));
             got(rt, Thm::axiom(g.alloc, &g.sig, &g.axiom))
@@ -240,17 +275,18 @@ fn of_two(rt: &impl Abort, alloc: Global, letter: char, s: &Thm, t: &Thm) -> Thm
 }
 
 /// Whether the rule of a capital can be used, or what a sign asks for holds: `=` that the proposition is the term in front,
-/// `+` that a hypothesis is, `-` that there is none, `f` and `o` that `fixed_hyps` and `one_typed` hold.
+/// `+` that a hypothesis is, `-` that there is none, `f` and `o` that `fixed_hyps` and `one_typed` hold, `F` and `O` not.
 fn holds(rt: &impl Abort, g: &Given, letter: char, a: &Term, t: &Thm) -> bool {
     match letter {
         '=' => t.prop().is(a),
         '+' => t.hyps().has(a),
         '-' => t.hyps().is_nil(),
         'f' | 'F' => t.fixed_hyps(),
-        'o' => t.one_typed(),
+        'o' | 'O' => t.one_typed(),
         'X' => Thm::can_axiom(&g.sig, &g.other),
         'H' => Thm::can_assume(a),
         'R' => Thm::can_refl(a),
+        'U' => Goal::can_init(a),
         'I' => Thm::can_imp_intr(a, t),
         'V' => Thm::can_all_elim(a, t),
         'N' => got(rt, Thm::can_conv(g.alloc, a, t)),
@@ -290,7 +326,7 @@ fn before<'a>(rt: &impl Abort, thms: &'a [Thm]) -> &'a Thm {
 
 fn step(rt: &impl Abort, g: &Given, letter: char, a: &Term, thms: &[Thm]) -> Option<Thm> {
     match letter {
-        'x' | 'h' | 'r' => Some(of_term(rt, g, letter, a)),
+        'x' | 'h' | 'r' | 'u' => Some(of_term(rt, g, letter, a)),
         'i' | 'v' | 'n' | 'g' => Some(of_both(rt, g, letter, a, last(rt, thms))),
         's' | 'q' | 'l' | 'p' => Some(of_one(rt, g, letter, last(rt, thms))),
         'm' | 'e' | 'w' | 't' | 'k' => Some(of_two(
@@ -309,7 +345,7 @@ fn ask(rt: &impl Abort, g: &Given, letter: char, a: &Term, thms: &[Thm]) {
         '=' | '+' | '-' | 'f' | 'o' => {
             assert!(rt; holds(rt, g, letter, a, last(rt, thms)));
         }
-        'X' | 'H' | 'R' | 'I' | 'V' | 'N' | 'G' | 'S' | 'Q' | 'L' | 'P' | 'F' => {
+        'X' | 'H' | 'R' | 'U' | 'I' | 'V' | 'N' | 'G' | 'S' | 'Q' | 'L' | 'P' | 'F' | 'O' => {
             assert!(rt; !holds(rt, g, letter, a, last(rt, thms)));
         }
         'M' | 'E' | 'W' | 'T' | 'K' => {
@@ -369,6 +405,18 @@ fn forms(rt: HostRuntime) {
 #[test]
 fn instances(rt: HostRuntime) {
     prove(&rt, rt.alloc(), "AhP ip BB>=fo ?hFo");
+}
+
+/// In `? |- ? B ==> ?` the schematic has two types.
+#[test]
+fn schematics_of_two_types(rt: HostRuntime) {
+    prove(&rt, rt.alloc(), "?ho B$i B$?>= O");
+}
+
+/// `B ==> (!!A. A ==> A)` as a goal, whose subgoal is `!!A. B ==> A ==> A`.
+#[test]
+fn claims(rt: HostRuntime) {
+    prove(&rt, rt.alloc(), "Ah 0U B00>!>u- B00>>! B00>!> >=");
 }
 
 /// `B ==> C ==> A` as a goal, and `C ==> B ==> A`.
