@@ -4,4 +4,3 @@ pub mod PropForm
 pub mod MethodForm
 pub mod CommandForm
 pub mod Readable
-pub mod formers

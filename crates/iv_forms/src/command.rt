@@ -1,8 +1,8 @@
 use crate::fact::{Att, Fact};
-use crate::items::Items;
 use crate::method::MethodText;
 use crate::prop::{Claim, Group, Label, Prop, VarGroup};
 use iv_lex::Token;
+use iv_list::Items;
 
 /// How a constant is written.
 #[derive(Drop)]

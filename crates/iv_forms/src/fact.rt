@@ -1,5 +1,5 @@
-use crate::items::Items;
 use iv_lex::Token;
+use iv_list::Items;
 use iv_shared::Shared;
 
 /// A selection of theorems of a fact.

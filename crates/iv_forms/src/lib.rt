@@ -3,7 +3,6 @@
 
 pub mod command;
 pub mod fact;
-pub mod items;
 pub mod judge;
 pub mod lexeme;
 pub mod method;
@@ -11,7 +10,7 @@ pub mod prop;
 
 pub use command::{Axiom, Body, Constant, Equation, Fixity, NoteGroup, Obtained, Parts, Statement};
 pub use fact::{Att, Fact, Mark, Place, Sel, TermPlace, Where};
-pub use items::Items;
+pub use iv_list::Items;
 pub use lexeme::Lexeme;
 pub use method::{Arg, Case, Cut, MethodText, Pattern, Section, Subject};
 pub use prop::{Claim, Group, Label, Prop, VarGroup};

@@ -1,7 +1,7 @@
 use crate::fact::Fact;
-use crate::items::Items;
 use crate::prop::VarGroup;
 use iv_lex::Token;
+use iv_list::Items;
 use iv_shared::Shared;
 
 /// A section of a call: its name and its facts.

@@ -1,6 +1,6 @@
 use crate::fact::Att;
-use crate::items::Items;
 use iv_lex::Token;
+use iv_list::Items;
 
 /// A label: a name, attributes, or both.
 #[derive(Drop)]

@@ -1,4 +1,3 @@
-use crate::items::Items;
 use crate::judge::judge;
 use crate::lexeme::Lexeme;
 use iv_lex::{Kind, Token};
@@ -32,14 +31,5 @@ fn verdicts(rt: HostRuntime) -> Result<(), Fail> {
     assert_eq!(rt; judge(rt.alloc(), &lexemes)?, Verdict::Whole);
     lexemes.push(of_class(&rt, Class::Nat)?)?;
     assert_eq!(rt; judge(rt.alloc(), &lexemes)?, Verdict::Refused(2));
-    Ok(())
-}
-
-#[test]
-fn items_in_order(rt: HostRuntime) -> Result<(), Fail> {
-    let mut items: Items<u32> = Items::new(rt.alloc());
-    items.push(3)?;
-    items.push(1)?;
-    assert_eq!(rt; items.as_slice(), [3, 1].as_slice());
     Ok(())
 }

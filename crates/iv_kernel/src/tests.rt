@@ -424,3 +424,42 @@ fn claims(rt: HostRuntime) {
 fn subgoals_are_turned_round(rt: HostRuntime) {
     prove(&rt, rt.alloc(), "AhG Ci Bi Ag CBA>>= A+");
 }
+
+fn assumed(rt: &impl Abort, alloc: Global, letter: char) -> Thm {
+    let prop = atom(rt, alloc, letter);
+    assert!(rt; Thm::can_assume(&prop));
+    got(rt, Thm::assume(alloc, &prop))
+}
+
+/// `A |- A` with the name `a`, and `B |- B` without one.
+fn two_theorems(rt: &impl Abort, alloc: Global) -> Theorems {
+    let mut theorems = Theorems::new(alloc);
+    let name = Some(text(rt, alloc, 'a'));
+    let thm = assumed(rt, alloc, 'A');
+    got(rt, theorems.push(NamedThm { name, thm }));
+    let thm = assumed(rt, alloc, 'B');
+    got(rt, theorems.push(NamedThm { name: None, thm }));
+    theorems
+}
+
+fn is_named(named: &NamedThm, letter: char, prop: &Term) -> bool {
+    match &named.name {
+        Some(name) => name.is_chars(&[letter]) && named.thm.prop().is(prop),
+        None => false,
+    }
+}
+
+#[test]
+fn theorems_with_names(rt: HostRuntime) {
+    let alloc = rt.alloc();
+    let theorems = two_theorems(&rt, alloc);
+    let copy = got(&rt, theorems.copy(alloc));
+    let (a, b) = (atom(&rt, alloc, 'A'), atom(&rt, alloc, 'B'));
+    match copy.as_slice() {
+        [first, second] => {
+            assert!(rt; is_named(first, 'a', &a));
+            assert!(rt; second.name.is_none() && second.thm.prop().is(&b));
+        }
+        _ => panic!(rt; "not two theorems"),
+    }
+}

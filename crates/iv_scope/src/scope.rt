@@ -1,14 +1,15 @@
-ghost use Rattle.std.specs.Prelude.{◌≡◌, [], ◌∷◌, ◌++◌, IfOk, IfErr, OnOk, OnErr};
+ghost use Rattle.std.specs.Prelude.{◌≡◌, IfOk, IfErr};
 ghost use Rattle.iv_term.specs.declared.want.Want.TheVariants.{Memory};
 
-use iv_term::{Mem, Name, Term, Text, Typ};
-use std::alloc::Global;
-use std::marker::Model;
+use iv_list::Items;
+use iv_term::{Copied, Mem, Name, Term, Text, Typ};
 
 /// A name in scope, and its type where one is known.
 #[derive(Drop)]
 pub struct ScopeName {
+    /// The name.
     pub name: Name,
+    /// Its type, where one is known.
     pub typ: Option<Typ>,
 }
 
@@ -32,69 +33,21 @@ impl ScopeName {
     }
 }
 
+impl Copied for ScopeName {
+    fn copied(&self) -> Mem<ScopeName> {
+        self.copy()
+    }
+}
+
 /// Names in scope, in order. Contracts see a list.
-#[derive(Drop)]
-pub struct ScopeNames {
-    items: Vec<ScopeName>,
-}
-
-impl Model for ScopeNames {
-    ghost use Rattle.std.specs.Prelude.{List};
-    ghost use Rattle.std.specs.Coded.{codes};
-    ghost use Rattle.iv_scope.specs.declared.scope.ScopeName.{ScopeName};
-    ghost use Rattle.iv_scope.specs.contracts.scope.ScopeName as a_name;
-
-    ghost Value = { List ScopeName };
-
-    ghost coded = { Prim.hlevel (codes, a_name.the_row.coded) };
-
-    ghost view = { λ s. s.items.items };
-}
-
-impl ScopeNames {
-    /// No names.
-    pub fn new(alloc: Global) -> ScopeNames
-        ensures { result ≡ [] }
-    {
-        ScopeNames {
-            items: Vec::new(alloc),
-        }
-    }
-
-    /// All of them.
-    pub fn as_slice(&self) -> &[ScopeName]
-        ensures { result.now ≡ self.now }
-    {
-        self.items.as_slice()
-    }
-
-    /// Puts one at the end. Fails where memory runs out, and the list is then as before.
-    pub fn push(&mut self, item: ScopeName) -> Mem<()>
-        ensures ok { OnOk result (self.new ≡ self.old ++ item ∷ []) }
-        ensures err { OnErr result (self.new ≡ self.old) }
-        ensures memory { IfErr result (λ w. w ≡ Memory) }
-    {
-        self.items.push(item)?;
-        Ok(())
-    }
-
-    /// An equal list; its parts are shared. Fails where memory runs out.
-    pub fn copy(&self, alloc: Global) -> Mem<ScopeNames>
-        ensures ok { IfOk result (λ s. s ≡ self.now) }
-        ensures memory { IfErr result (λ w. w ≡ Memory) }
-    {
-        let mut copy = ScopeNames::new(alloc);
-        for item in self.as_slice() {
-            copy.push(item.copy()?)?;
-        }
-        Ok(copy)
-    }
-}
+pub type ScopeNames = Items<ScopeName>;
 
 /// A text and the term that it is bound to.
 #[derive(Drop)]
 pub struct Binding {
+    /// The text.
     pub text: Text,
+    /// The term that it is bound to.
     pub term: Term,
 }
 
@@ -110,61 +63,11 @@ impl Binding {
     }
 }
 
+impl Copied for Binding {
+    fn copied(&self) -> Mem<Binding> {
+        self.copy()
+    }
+}
+
 /// Texts that are bound to terms, in order. Contracts see a list.
-#[derive(Drop)]
-pub struct Bindings {
-    items: Vec<Binding>,
-}
-
-impl Model for Bindings {
-    ghost use Rattle.std.specs.Prelude.{List};
-    ghost use Rattle.std.specs.Coded.{codes};
-    ghost use Rattle.iv_scope.specs.declared.scope.Binding.{Binding};
-    ghost use Rattle.iv_scope.specs.contracts.scope.Binding as a_binding;
-
-    ghost Value = { List Binding };
-
-    ghost coded = { Prim.hlevel (codes, a_binding.the_row.coded) };
-
-    ghost view = { λ s. s.items.items };
-}
-
-impl Bindings {
-    /// No bindings.
-    pub fn new(alloc: Global) -> Bindings
-        ensures { result ≡ [] }
-    {
-        Bindings {
-            items: Vec::new(alloc),
-        }
-    }
-
-    /// All of them.
-    pub fn as_slice(&self) -> &[Binding]
-        ensures { result.now ≡ self.now }
-    {
-        self.items.as_slice()
-    }
-
-    /// Puts one at the end. Fails where memory runs out, and the list is then as before.
-    pub fn push(&mut self, item: Binding) -> Mem<()>
-        ensures ok { OnOk result (self.new ≡ self.old ++ item ∷ []) }
-        ensures err { OnErr result (self.new ≡ self.old) }
-        ensures memory { IfErr result (λ w. w ≡ Memory) }
-    {
-        self.items.push(item)?;
-        Ok(())
-    }
-
-    /// An equal list; its parts are shared. Fails where memory runs out.
-    pub fn copy(&self, alloc: Global) -> Mem<Bindings>
-        ensures ok { IfOk result (λ s. s ≡ self.now) }
-        ensures memory { IfErr result (λ w. w ≡ Memory) }
-    {
-        let mut copy = Bindings::new(alloc);
-        for item in self.as_slice() {
-            copy.push(item.copy()?)?;
-        }
-        Ok(copy)
-    }
-}
+pub type Bindings = Items<Binding>;
