@@ -10,8 +10,8 @@ use Rattle.iv_hsub.specs.Hhf.{one}
 use Rattle.iv_rules.specs.Laws.{SameIsEqual}
 use Rattle.iv_term.specs.declared.want.Want.{Want}
 use Rattle.iv_hsub.specs.Made.{IsPast, made_hhf}
+use Rattle.iv_hsub.proofs.Terms.Past.{past-left, past-right}
 use Rattle.iv_kernel.specs.Goal.{goal_prop, premises_of, IsGoalProp, IsInForm, IsGoal, made_forms}
-use Rattle.iv_kernel.proofs.Results.{past-left, past-right}
 
 pub length-premises_of : (n : ℕ) (p : Term) → length (premises_of n p) ≡ n
 unfolding premises_of

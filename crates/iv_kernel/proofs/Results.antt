@@ -1,5 +1,5 @@
--- What a call's last answer says of its caller's, and what a `?` hands on.
-use Rattle.std.proofs.Common.{◌≡◌, ℕ, List, [], ◌∷◌, ◌++◌, inl, inr, Result, Ok, Err, IsErrAnd, IfOk, IfErr, sym, ◌∙◌}
+-- What a call's last answer says of its caller's.
+use Rattle.std.proofs.Common.{◌≡◌, Result, Ok, Err, IfOk, IfErr, sym, ◌∙◌}
 use Rattle.iv_term.specs.declared.want.Want.{Want}
 use Rattle.iv_term.specs.declared.want.Want.TheVariants.{Memory, Number}
 use Rattle.iv_term.specs.declared.typ.Typ.TheBlock.{Nil as no_types}
@@ -7,27 +7,9 @@ use Rattle.iv_term.specs.declared.term.Term.{Term}
 use Rattle.iv_term.specs.declared.term.Terms.{Terms}
 use Rattle.iv_term.specs.declared.term.Term.TheBlock.{Nil}
 use Rattle.iv_term.specs.Term.{tm_cons}
-use Rattle.iv_hsub.specs.Made.{IsPast}
 use Rattle.iv_put.specs.Subst.{IsOpenTerm}
 use Rattle.iv_rules.specs.Sequent.{IsProp, AreProps}
 use Rattle.iv_inst.specs.Open.{AreOpenTerms}
-
-pub past-left : (ns ms : List ℕ) → IsPast ns → IsPast (ns ++ ms)
-past-left [] ms h = absurd h
-past-left (n ∷ ns) ms (inl h) = inl h
-past-left (n ∷ ns) ms (inr h) = inr (past-left ns ms h)
-
-pub past-right : (ns ms : List ℕ) → IsPast ms → IsPast (ns ++ ms)
-past-right [] ms h = h
-past-right (n ∷ ns) ms h = inr (past-right ns ms h)
-
-pub exit : {T : Type 0} (r : Result T Want) (w : Want) (P : Type 0) → IsErrAnd r (λ y. y ≡ w) → (w ≡ Number → P) → IfErr r (λ z. z ≡ Number → P)
-exit (Ok x) w P h f = tt
-exit (Err e) w P h f = λ q. f (sym h ∙ q)
-
-pub weaker : {T : Type 0} (r : Result T Want) (P Q : Type 0) → (P → Q) → IfErr r (λ z. z ≡ Number → P) → IfErr r (λ z. z ≡ Number → Q)
-weaker (Ok x) P Q f h = tt
-weaker (Err e) P Q f h = λ q. f (h q)
 
 -- want of memory is no number
 pub no-number : {T : Type 0} (r : Result T Want) (P : Type 0) → IfErr r (λ w. w ≡ Memory) → IfErr r (λ w. w ≡ Number → P)

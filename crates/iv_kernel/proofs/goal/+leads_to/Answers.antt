@@ -1,5 +1,5 @@
 use Rattle.std.proofs.Common.{◌-◌, arith}
-use Rattle.iv_kernel.proofs.Results.{exit, weaker}
+use Rattle.iv_hsub.proofs.Terms.Past.{exit, weaker}
 use Rattle.iv_kernel.proofs.Goals.{leads-now, leads-later, leads-no, leads-unformed, forms-first, forms-later}
 use Rattle.iv_kernel.proofs.goal.+leads_to.Goals as goal
 

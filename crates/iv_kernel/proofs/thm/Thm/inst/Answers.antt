@@ -1,6 +1,7 @@
 use Rattle.std.proofs.Common.{ap, subst}
 use Rattle.iv_rules.specs.Rules.{Shows}
-use Rattle.iv_kernel.proofs.Results.{exit, past-left, past-right, open-prop, open-props}
+use Rattle.iv_hsub.proofs.Terms.Past.{exit, past-left, past-right}
+use Rattle.iv_kernel.proofs.Results.{open-prop, open-props}
 use Rattle.iv_kernel.proofs.thm.Thm.inst.Goals as goal
 
 pub instanced_hyps-requires : goal.instanced_hyps-requires
