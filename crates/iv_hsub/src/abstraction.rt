@@ -73,8 +73,8 @@ fn bind_all(alloc: Global, ts: &Terms, x: &Name, a: &Typ, k: u32) -> Mem<Terms>
 }
 
 /// The abstraction of a term over its free variable of this name and type, contracted where it can be. A
-/// variable of the name and another type stays. Fails with `Number` only where an index or a depth that is made on
-/// the way is 4,294,967,295 or more.
+/// variable of the name and another type stays. Fails where memory runs out; with `Number` only where an index or a
+/// depth that is made on the way is 4,294,967,295 or more.
 pub fn abstract_over(alloc: Global, t: &Term, name: &Name, typ: &Typ) -> Mem<Term>
     ensures ok { IfOk result (λ r. r ≡ abstract_over name.now typ.now t.now) }
     ensures number { IfErr result (λ w. w ≡ Number → IsPast (made_raise 1 0 t.now)) }

@@ -1,8 +1,10 @@
-//! The form in which each `!!` stands in front of `==>`.
+//! Hereditary Harrop form, in which each `!!` stands in front of `==>`: [`hhf`] brings a term into it.
 ghost use Rattle.std.specs.Prelude.{◌≡◌, false, ◌&&◌, ◌++◌, IfOk, IfErr, IsTrue, ◌↔◌};
 ghost use Rattle.iv_term.specs.Term.{tm_cons, imp, is_nil, is_one};
 ghost use Rattle.iv_term.specs.declared.term.Head.TheVariants.{Bound};
+ghost use Rattle.iv_term.specs.declared.typ.Typ.{Typ};
 ghost use Rattle.iv_term.specs.declared.term.Head.{Head};
+ghost use Rattle.iv_term.specs.declared.term.Term.{Term};
 ghost use Rattle.iv_term.specs.declared.term.Terms.{Terms};
 ghost use Rattle.iv_term.specs.declared.term.Term.TheBlock.{Spine};
 ghost use Rattle.iv_term.specs.declared.want.Want.TheVariants.{Memory, Number};
@@ -10,7 +12,7 @@ ghost use Rattle.iv_term.specs.Typ.{prop, fun};
 ghost use Rattle.iv_hsub.specs.Typing.{dom};
 ghost use Rattle.iv_hsub.specs.Index.{index, raise, eta};
 ghost use Rattle.iv_hsub.specs.Hsub.{append};
-ghost use Rattle.iv_hsub.specs.Hhf.{all_typ, is_imp, is_all, bound_type, one, expand, all_of, push_expanded, push, push_args, push_under, hhf_spine, hhf, hhf_all, is_quantified};
+ghost use Rattle.iv_hsub.specs.Hhf.{all_typ, all_head, is_imp, is_all, bound_type, one, expand, all_of, push_expanded, push, push_args, push_under, hhf_spine, hhf, hhf_all, is_quantified};
 ghost use Rattle.iv_hsub.specs.Made.{IsPast, made_raise, made_raise_head, made_raise_all, made_push_expanded, made_push, made_push_args, made_push_under, made_hhf_spine, made_hhf, made_hhf_all};
 
 use crate::contraction::{contracts, eta};
@@ -227,6 +229,14 @@ fn all_moved(alloc: Global, ts: &Terms) -> Mem<Terms>
 
 /// Whether a term is `!!` with its one argument. Takes no memory.
 pub fn is_quantified(t: &Term) -> bool
+    ensures same { result ≡ is_quantified t.now }
+    ensures quantified { IsTrue result ↔ ((a : Typ) × ((f : Term) × (t.now ≡ Spine (all_head a) (one f)))) }
+{
+    is_all_at_one(t)
+}
+
+/// The same, as the test computes.
+fn is_all_at_one(t: &Term) -> bool
     ensures { result ≡ is_quantified t.now }
 {
     match t {
@@ -286,7 +296,8 @@ fn are_plain(ts: &Terms) -> bool
 }
 
 /// The term with each `!!` moved in front of `==>`, everywhere in it. A term that has the form already is given
-/// back shared. Fails with `Number` only where an index or a depth that is made on the way is 4,294,967,295 or more.
+/// back shared. Fails where memory runs out; with `Number` only where an index or a depth that is made on the way is
+/// 4,294,967,295 or more.
 pub fn hhf(alloc: Global, t: &Term) -> Mem<Term>
     ensures ok { IfOk result (λ r. r ≡ hhf t.now) }
     ensures number { IfErr result (λ w. w ≡ Number → IsPast (made_hhf t.now)) }

@@ -1,10 +1,16 @@
 //! Terms that compute: the part of the terms' layer above the values of `iv_term`.
 //!
-//! Typing, raising, hereditary substitution, abstraction, and the normal form that has each `!!` in front of
-//! `==>`. Each call is an equation with a definition of `specs/`; what holds of the definitions is in [`laws`].
+//! - Types: [`type_of`], [`has_type`], [`is_term`], [`is_prop`], and those of `!!` and `==` in [`constants`].
+//! - Indices and binders: [`loose`], [`raise`], [`contracts`], [`eta`], [`abstract_over`].
+//! - Hereditary substitution: [`hsub`], and [`happ`] for a value at arguments.
+//! - Hereditary Harrop form, with each `!!` in front of `==>`: [`hhf`].
+//!
+//! Tests take no memory. Each call is an equation with a definition of `specs/`, and so is what it may lack; what holds of
+//! the definitions is in [`laws`]. Signatures, substitutions, and with them the rules and the kernel stand on this crate.
 #![tactic(auto)]
 
 pub mod abstraction;
+pub mod constants;
 pub mod contraction;
 pub mod harrop;
 pub mod laws;
@@ -19,7 +25,7 @@ pub use harrop::hhf;
 pub use looseness::loose;
 pub use raising::raise;
 pub use substitution::{happ, hsub};
-pub use typing::{has_type, is_term, type_of};
+pub use typing::{has_type, is_prop, is_term, type_of};
 
 #[cfg(test)]
 mod tests;

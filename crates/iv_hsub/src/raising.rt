@@ -48,8 +48,8 @@ pub(crate) fn raise_head(h: &Head, by: u32, depth: u32) -> Mem<Head>
     }
 }
 
-/// A term with `by` more binders put around it, where the inner `depth` binders are its own. Fails with
-/// `Number` only where an index or a depth that raising makes is 4,294,967,295 or more.
+/// A term with `by` more binders put around it, where the inner `depth` binders are its own. Fails where memory
+/// runs out; with `Number` only where an index or a depth that is made on the way is 4,294,967,295 or more.
 #[cycle(raise)]
 pub fn raise(alloc: Global, t: &Term, by: u32, depth: u32) -> Mem<Term>
     ensures ok { IfOk result (λ r. r ≡ raise by depth t.now) }
@@ -68,7 +68,8 @@ pub fn raise(alloc: Global, t: &Term, by: u32, depth: u32) -> Mem<Term>
     }
 }
 
-/// The same of some terms.
+/// The same of some terms. Fails where memory runs out; with `Number` only where an index or a depth that is made
+/// on the way is 4,294,967,295 or more.
 #[cycle(raise)]
 pub fn raise_all(alloc: Global, ts: &Terms, by: u32, depth: u32) -> Mem<Terms>
     ensures ok { IfOk result (λ r. r ≡ raise_all by depth ts.now) }

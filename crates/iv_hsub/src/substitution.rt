@@ -128,8 +128,8 @@ fn put_head(alloc: Global, h: &Head, args: &Terms, v: &Term, k: u32, a: &Typ) ->
 }
 
 /// What a value of type `a` is at some arguments: an abstraction over the argument's type takes the first, and
-/// what comes takes the others. Fails with `Number` only where an index or a depth that is made on the way is
-/// 4,294,967,295 or more.
+/// what comes takes the others. Fails where memory runs out; with `Number` only where an index or a depth that is
+/// made on the way is 4,294,967,295 or more.
 #[cycle(hsub)]
 pub fn happ(alloc: Global, v: &Term, a: &Typ, args: &Terms) -> Mem<Term>
     ensures ok { IfOk result (λ r. r ≡ happ a.now v.now args.now) }
@@ -152,8 +152,8 @@ pub fn happ(alloc: Global, v: &Term, a: &Typ, args: &Terms) -> Mem<Term>
 
 /// A body with a value of type `typ` put for its outermost bound variable, by hereditary substitution. Where
 /// the body is a term under `typ` and `bounds`, and the value one of type `typ` under `bounds`, so is the
-/// result, of the body's type. Fails with `Number` only where an index or a depth that is made on the way is
-/// 4,294,967,295 or more.
+/// result, of the body's type. Fails where memory runs out; with `Number` only where an index or a depth that is
+/// made on the way is 4,294,967,295 or more.
 pub fn hsub(alloc: Global, body: &Term, value: &Term, typ: &Typ, bounds: &Types) -> Mem<Term>
     ensures ok { IfOk result (λ r. r ≡ hsub typ.now value.now body.now) }
     ensures typed { IsTerm (ty_cons typ.now bounds.now) body.now → IsTerm bounds.now value.now → type_of bounds.now value.now ≡ typ.now

@@ -58,7 +58,7 @@ fn typ(rt: &impl Abort, alloc: Global, written: &str) -> Typ {
 /// The type of a variable or a constant, or that over which a sign abstracts.
 fn kind(letter: char) -> &'static str {
     match letter {
-        'A' | 'B' => "p",
+        'A' | 'B' | 'C' => "p",
         '^' | 'f' => ">ii",
         '&' => ">ip",
         'h' => ">i>ii",
@@ -210,6 +210,9 @@ fn terms_and_their_types(rt: HostRuntime) {
     assert!(rt; !is_term(&term(&rt, alloc, "(h A)"), &bounds));
     assert!(rt; has_type(&good, &over, &bounds) && !has_type(&good, &over, &Types::Nil));
     assert!(rt; !has_type(&good, &typ(&rt, alloc, "i"), &bounds));
+    assert!(rt;
+        is_prop(&term(&rt, alloc, "(= A B)")) && !is_prop(&good) && !is_prop(&term(&rt, alloc, "c"))
+    );
 }
 
 /// %z. h c z isn't short.
@@ -261,6 +264,14 @@ fn quantifiers_move_everywhere(rt: HostRuntime) {
     let alloc = rt.alloc();
     let result = moved(&rt, alloc, "(P %(= A (! %B)))");
     assert!(rt; is(&rt, alloc, &result, "(P %(! %(= A B)))"));
+}
+
+/// A ==> B ==> !!x. C and !!x. A ==> B ==> C.
+#[test]
+fn a_quantifier_behind_two_premises(rt: HostRuntime) {
+    let alloc = rt.alloc();
+    let result = moved(&rt, alloc, "(= A (= B (! %C)))");
+    assert!(rt; is(&rt, alloc, &result, "(! %(= A (= B C)))"));
 }
 
 /// A ==> !!f. !! f, and !!f. !!x. A ==> f x.

@@ -1,6 +1,7 @@
 //! Types of terms, and which trees are terms.
 ghost use Rattle.std.specs.Prelude.{◌≡◌, ◌≤◌, ◌<◌, IfOk, IfErr, IsTrue, ◌↔◌, MatchOption};
-ghost use Rattle.iv_term.specs.Typ.{fun};
+ghost use Rattle.iv_term.specs.Typ.{prop, fun};
+ghost use Rattle.iv_term.specs.declared.typ.Typ.TheBlock.{Nil};
 ghost use Rattle.iv_term.specs.declared.want.Want.TheVariants.{Memory};
 ghost use Rattle.iv_hsub.specs.Typing.{first_typ, second_typ, dom, cod, types_len, type_at, head_type, result_type, type_of, IsHead, IsTerm, AreArgs, HasType};
 ghost use Rattle.iv_hsub.specs.Index.{contracts};
@@ -234,6 +235,33 @@ fn result_type<'a>(ts: &Terms, a: &'a Typ) -> &'a Typ
         Terms::Nil => a,
         Terms::Cons(_t, rest) => result_type(rest.get(), cod(a)),
     }
+}
+
+/// Whether some trees are arguments for what has type `c`, and make a proposition with it.
+fn make_prop(ts: &Terms, c: &Typ, bounds: &Bounds) -> bool
+    ensures { IsTrue result ↔ (AreArgs (types_in bounds.now) c.now ts.now × (result_type c.now ts.now ≡ prop)) }
+{
+    are_args(ts, c, bounds) && result_type(ts, c).is_prop()
+}
+
+/// Whether a tree is a proposition under some bound variables.
+fn is_prop_under(t: &Term, bounds: &Bounds) -> bool
+    ensures { IsTrue result ↔ HasType (types_in bounds.now) prop t.now }
+{
+    match t {
+        Term::Abs(_c, _b) => false,
+        Term::Spine(h, ts) => match head_type(h, &*bounds) {
+            None => false,
+            Some(c) => make_prop(ts, c, &*bounds),
+        },
+    }
+}
+
+/// Whether a tree is a proposition: a term of type `prop` without loose indices. Takes no memory.
+pub fn is_prop(t: &Term) -> bool
+    ensures { IsTrue result ↔ HasType Nil prop t.now }
+{
+    is_prop_under(t, &Bounds::Outer(&Types::Nil))
 }
 
 /// The type of a head at some arguments; where it has none, that of what has type `prop`.

@@ -15,9 +15,9 @@ use Rattle.iv_term.proofs.Laws.Same.{same_text-same, same_typ-same, same_typ-Dec
 use Rattle.iv_term.proofs.Laws.Tests.{are_two-parts, spine-parts}
 use Rattle.iv_hsub.specs.Typing.{dom, cod}
 use Rattle.iv_hsub.specs.Index.{contracts, eta}
-use Rattle.iv_hsub.specs.Hhf.{all_typ, is_imp, is_all, hhf_spine, hhf, hhf_all, push, is_quantified}
+use Rattle.iv_hsub.specs.Hhf.{all_typ, all_head, is_imp, is_all, bound_type, one, hhf_spine, hhf, hhf_all, push, is_quantified}
 use Rattle.iv_hsub.proofs.Terms.Eta.{eta-short}
-use Rattle.iv_hsub.proofs.Terms.Hhf.{imp-true, hhf_spine-same, hhf_spine-other_head}
+use Rattle.iv_hsub.proofs.Terms.Hhf.{imp-true, all-true, hhf_spine-same, hhf_spine-other_head}
 
 pub predicate_when : (a : Typ) (b : Bool) → a ≡ fun (dom a) (cod a) → (IsTrue b ↔ (cod a ≡ prop)) → (IsTrue b ↔ (a ≡ fun (dom a) prop))
 unfolding cod
@@ -40,6 +40,26 @@ all_test c a r e d =
     let f : bytes_eq c (codes "!!") ≡ true = ap (bytes_eq c) (sym e) ∙ same_text-same c in
     let g : r ≡ same_typ a (all_typ (dom (dom a))) = same_from_decides _ _ d (same_typ-Decides a (all_typ (dom (dom a)))) in
     g ∙ ap (λ z. z && same_typ a (all_typ (dom (dom a)))) (sym f)
+
+-- a term is !! at a predicate where the test says so
+all-test : (a : Typ) → is_all (all_head a) ≡ true
+unfolding dom
+all-test a = ap (λ z. bytes_eq (codes "!!") (codes "!!") && z) (same_typ-same (all_typ a))
+
+abbrev IsAtOne : Term → Type 0
+IsAtOne t = (a : Typ) × ((f : Term) × (t ≡ Spine (all_head a) (one f)))
+
+quantified-there : (t : Term) → is_quantified t ≡ true → IsAtOne t
+quantified-there (lam c b) q = absurd (let bad : false ≡ true = q in cc)
+quantified-there (Spine h Nil) q = absurd (let bad : false ≡ true = (and_parts (is_all h) false q).1 in cc)
+quantified-there (Spine h (tm_cons f Nil)) q = let e = all-true h (and_parts (is_all h) true q).0 in (bound_type h, (f, λ i. Spine (e i) (one f)))
+quantified-there (Spine h (tm_cons f (tm_cons g gs))) q = absurd (let bad : false ≡ true = (and_parts (is_all h) false q).1 in cc)
+
+quantified-back : (t : Term) → IsAtOne t → is_quantified t ≡ true
+quantified-back t p = ap is_quantified p.1.1 ∙ ap (λ z. z && true) (all-test p.0)
+
+pub quantified_test : (t : Term) (r : Bool) → r ≡ is_quantified t → (IsTrue r ↔ IsAtOne t)
+quantified_test t r e = (λ h. quantified-there t (sym e ∙ h), λ p. e ∙ quantified-back t p)
 
 -- a head with arguments is an implication where the test says so
 imp-test : is_imp imp_head ≡ true

@@ -6,7 +6,7 @@ use Rattle.iv_term.specs.declared.term.Head.{Head}
 use Rattle.iv_term.specs.declared.term.Term.{Term}
 use Rattle.iv_term.specs.declared.term.Terms.{Terms}
 use Rattle.iv_term.specs.declared.term.Term.TheBlock.{Spine}
-use Rattle.iv_term.specs.Typ.{fun, ty_cons}
+use Rattle.iv_term.specs.Typ.{prop, fun, ty_cons}
 use Rattle.iv_term.specs.Term.{lam, tm_cons}
 use Rattle.iv_hsub.specs.Typing.{dom, cod, head_type, result_type, type_of, IsHead, IsTerm, AreArgs}
 use Rattle.iv_hsub.specs.Index.{contracts}
@@ -43,6 +43,11 @@ module _ (bs : Types) (a c : Typ) (b : Term) where
     λ h. let p = d.0 h in ((p.0, g), (λ i. fun (sym f i) (p.1 i)) ∙ sym e),
     λ p. d.1 (p.0.0, (lam-fun bs a c b p.1).1.1),
   )
+
+-- and no proposition
+pub lam-no_prop : (bs : Types) (a : Typ) (b : Term) → (IsTrue false ↔ (IsTerm bs (lam a b) × (type_of bs (lam a b) ≡ prop)))
+unfolding type_of
+lam-no_prop bs a b = never _ (λ p. let bad : fun a (type_of (ty_cons a bs) b) ≡ prop = p.1 in cc)
 
 -- so is a head with arguments
 pub spine-fits : (bs : Types) (a c : Typ) (h : Head) (ts : Terms) (r : Bool) → IsHead bs h × (c ≡ head_type bs h)

@@ -7,4 +7,4 @@ pub returns-then-not-is_implication : goal.returns-then-not-is_implication
 returns-then-not-is_implication c = λ e. stays-other _ _ c.is_implication.ensures c.if-not-is_implication.true
 
 pub returns : goal.returns
-returns c = λ e. stays-plain _ (ap is_quantified (sym c.consequent.ensures) ∙ sym c.is_quantified.ensures ∙ e)
+returns c = λ e. stays-plain _ (ap is_quantified (sym c.consequent.ensures) ∙ sym c.is_quantified.ensures.same ∙ e)
