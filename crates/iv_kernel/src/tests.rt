@@ -152,13 +152,6 @@ fn all_given(rt: &impl Abort, alloc: Global) -> Given {
     }
 }
 
-fn goal_of_two(rt: &impl Abort, alloc: Global, claim: &Term, t: &Thm) -> Goal {
-    let thm = got(rt, t.copy());
-    let is_goal = Goal::can_make(alloc, &thm, 2, claim).expect(rt, "memory");
-    assert!(rt; is_goal);
-    got(rt, Goal::made(thm, 2, claim))
-}
-
 /// Whether two goals of two subgoals have the same ones, one claim and one proposition.
 fn are_one(a: &Goal, b: &Goal) -> bool {
     if a.count() != 2 || b.count() != 2 {
@@ -169,15 +162,20 @@ fn are_one(a: &Goal, b: &Goal) -> bool {
     same_first && same_second && a.claim().is(b.claim()) && a.thm().prop().is(b.thm().prop())
 }
 
-fn is_copied(rt: &impl Abort, goal: &Goal) -> bool {
+/// A theorem as a goal of two subgoals, of which a copy goes on.
+fn goal_of_two(rt: &impl Abort, alloc: Global, claim: &Term, t: &Thm) -> Goal {
+    let thm = got(rt, t.copy());
+    let is_goal = Goal::can_make(alloc, &thm, 2, claim).expect(rt, "memory");
+    assert!(rt; is_goal);
+    let goal = got(rt, Goal::made(thm, 2, claim));
     let copy = got(rt, goal.copy());
-    are_one(&copy, goal)
+    assert!(rt; are_one(&copy, &goal));
+    copy
 }
 
 /// A theorem as a goal of two subgoals, with the first of them behind the second.
 fn turned(rt: &impl Abort, alloc: Global, claim: &Term, t: &Thm) -> Thm {
     let goal = goal_of_two(rt, alloc, claim, t);
-    assert!(rt; is_copied(rt, &goal));
     assert_eq!(rt; goal.count(), 2);
     let goal = got(rt, goal.rotate(alloc, 1, 2));
     assert!(rt; goal.count() == 2 && goal.claim().is(claim));
