@@ -1,12 +1,9 @@
 //! Which types a judgment may have, and which terms may be axioms.
-ghost use Rattle.std.specs.Prelude.{◌≡◌, IsTrue, ◌↔◌, MatchOption};
-ghost use Rattle.iv_term.specs.Typ.{prop};
-ghost use Rattle.iv_term.specs.declared.typ.Typ.TheBlock.{Nil};
-ghost use Rattle.iv_hsub.specs.Typing.{head_type, type_of, result_type, IsHead, IsTerm};
+ghost use Rattle.std.specs.Prelude.{◌≡◌, IsTrue, ◌↔◌};
 ghost use Rattle.iv_sig.specs.Conditions.{has_variable, any_has_variable, IsJudgmentType, is_free, has_free, any_has_free, IsAxiom};
 
 use iv_hsub::typing::{cod, dom, is_fun};
-use iv_hsub::{is_term, loose};
+use iv_hsub::{is_prop, loose};
 use iv_term::{Head, Term, Terms, Typ, Types};
 
 /// Whether a type variable, fixed or schematic, stands in a type.
@@ -77,50 +74,11 @@ fn any_has_free(ts: &Terms) -> bool
     }
 }
 
-/// Whether what has type `a` is a proposition at some arguments.
-fn leads_to_prop(ts: &Terms, a: &Typ) -> bool
-    ensures { IsTrue result ↔ (result_type a.now ts.now ≡ prop) }
-{
-    match ts {
-        Terms::Nil => a.is_prop(),
-        Terms::Cons(_t, rest) => leads_to_prop(rest.get(), cod(a)),
-    }
-}
-
-/// The type of a head that isn't bound.
-fn head_typ(h: &Head) -> Option<&Typ>
-    ensures { MatchOption result (IsHead Nil h.now → ⊥) (λ a. a.now ≡ head_type Nil h.now) }
-{
-    match h {
-        Head::Const(_c, a) => Some(a),
-        Head::Free(_x, a) => Some(a),
-        Head::Schematic(_x, a) => Some(a),
-        Head::Bound(_n) => None,
-    }
-}
-
-/// Whether a term under no bounds is of type `prop`.
-fn is_of_prop(t: &Term) -> bool
-    requires { IsTerm Nil t.now }
-    ensures { IsTrue result ↔ (type_of Nil t.now ≡ prop) }
-{
-    match t {
-        Term::Abs(_a, _b) => false,
-        Term::Spine(h, ts) => match head_typ(h) {
-            None => false,
-            Some(a) => leads_to_prop(ts, a),
-        },
-    }
-}
-
 /// Whether a term may be an axiom: it is of type `prop`, with no loose index and no free variable. Takes no memory.
 pub fn is_axiom(t: &Term) -> bool
     ensures { IsTrue result ↔ IsAxiom t.now }
 {
-    if !is_term(t, &Types::Nil) {
-        return false;
-    }
-    if !is_of_prop(t) {
+    if !is_prop(t) {
         return false;
     }
     if loose(t) > 0 {

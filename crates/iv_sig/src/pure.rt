@@ -2,10 +2,9 @@
 ghost use Rattle.std.specs.Prelude.{◌≡◌, IfOk, IfErr};
 ghost use Rattle.iv_term.specs.declared.want.Want.TheVariants.{Memory};
 ghost use Rattle.iv_sig.specs.Signature.{open_a, pure_types, pure_consts, is_pure};
-ghost use Rattle.iv_hsub.specs.Hhf.{all_typ};
-ghost use Rattle.iv_term.specs.Typ.{prop, fun};
 
 use crate::table::Table;
+use iv_hsub::constants::{all_typ, eq_typ};
 use iv_term::{Mem, Name, Text, Typ};
 use std::alloc::Global;
 
@@ -16,24 +15,6 @@ fn open_a(alloc: Global) -> Mem<Typ>
 {
     let text = Text::from_slice(alloc, &['\'', 'a'])?;
     Ok(Typ::Schematic(Name { text, number: 0 }))
-}
-
-/// `(?'a => prop) => prop`
-fn all_typ(alloc: Global) -> Mem<Typ>
-    ensures ok { IfOk result (λ a. a ≡ all_typ open_a) }
-    ensures memory { IfErr result (λ w. w ≡ Memory) }
-{
-    let predicate = Typ::fun(alloc, open_a(alloc)?, Typ::prop(alloc)?)?;
-    Typ::fun(alloc, predicate, Typ::prop(alloc)?)
-}
-
-/// `?'a => ?'a => prop`
-fn eq_typ(alloc: Global) -> Mem<Typ>
-    ensures ok { IfOk result (λ a. a ≡ fun open_a (fun open_a prop)) }
-    ensures memory { IfErr result (λ w. w ≡ Memory) }
-{
-    let predicate = Typ::fun(alloc, open_a(alloc)?, Typ::prop(alloc)?)?;
-    Typ::fun(alloc, open_a(alloc)?, predicate)
 }
 
 /// The types `fun` and `prop`.
@@ -52,6 +33,7 @@ pub(crate) fn pure_consts(alloc: Global) -> Mem<Table<Typ>>
     ensures ok { IfOk result (λ t. t ≡ pure_consts) }
     ensures memory { IfErr result (λ w. w ≡ Memory) }
 {
+    let a = open_a(alloc)?;
     let mut consts = Table::new(alloc);
     consts.push(
         alloc,
@@ -61,9 +43,13 @@ pub(crate) fn pure_consts(alloc: Global) -> Mem<Table<Typ>>
     consts.push(
         alloc,
         Text::from_slice(alloc, &['!', '!'])?,
-        all_typ(alloc)?,
+        all_typ(alloc, &a)?,
     )?;
-    consts.push(alloc, Text::from_slice(alloc, &['=', '='])?, eq_typ(alloc)?)?;
+    consts.push(
+        alloc,
+        Text::from_slice(alloc, &['=', '='])?,
+        eq_typ(alloc, &a)?,
+    )?;
     Ok(consts)
 }
 
