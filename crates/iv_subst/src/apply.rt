@@ -9,7 +9,7 @@ ghost use Rattle.iv_subst.specs.TySubst.{put_typ, put_typs, at};
 
 use crate::ty_subst::TySubst;
 use iv_shared::Shared;
-use iv_term::{Mem, Text, Typ, Types};
+use iv_term::{Mem, Text, Typ, Types, copy_of, new_or_copy, new_or_shared};
 use std::alloc::Global;
 
 impl TySubst {
@@ -35,7 +35,7 @@ fn changed(s: &TySubst, alloc: Global, typ: &Typ) -> Mem<Option<Typ>>
             with_args(c, args)
         }
         Typ::Fixed(_a) => Ok(None),
-        Typ::Schematic(x) => value(s.get(x)),
+        Typ::Schematic(x) => copy_of(s.get(x)),
     }
 }
 
@@ -55,17 +55,6 @@ fn changed_all(s: &TySubst, alloc: Global, typs: &Types) -> Mem<Option<Types>>
     }
 }
 
-/// The new type, if there is one, or a copy of the old one.
-pub(crate) fn new_or_copy(new: Option<Typ>, old: &Typ) -> Mem<Typ>
-    ensures ok { IfOk result (λ t. t ≡ unwrap_or new old.now) }
-    ensures memory { IfErr result (λ w. w ≡ Memory) }
-{
-    match new {
-        None => old.copy(),
-        Some(typ) => Ok(typ),
-    }
-}
-
 /// A constructor with new arguments, if there are any. Fails where memory runs out.
 pub fn with_args(c: &Text, args: Option<Types>) -> Mem<Option<Typ>>
     ensures ok { IfOk result (λ r. (ts : Types) → unwrap_or r (Con c.now ts) ≡ Con c.now (unwrap_or args ts)) }
@@ -82,10 +71,7 @@ pub fn value(found: Option<&Typ>) -> Mem<Option<Typ>>
     ensures ok { IfOk result (λ r. r ≡ option_copied found.entry) }
     ensures memory { IfErr result (λ w. w ≡ Memory) }
 {
-    match found {
-        None => Ok(None),
-        Some(typ) => Ok(Some(typ.copy()?)),
-    }
+    copy_of(found)
 }
 
 /// A list of types where the first or the rest may be new; what is old is shared. Fails where memory runs out.
@@ -104,7 +90,7 @@ pub fn with_parts(
         None => with_rest(alloc, old_first, rest, old_rest),
         Some(first) => {
             let first = Shared::new(alloc, first)?;
-            let rest = kept(alloc, rest, old_rest)?;
+            let rest = new_or_shared(alloc, rest, old_rest)?;
             Ok(Some(Types::Cons(first, rest)))
         }
     }
@@ -126,16 +112,5 @@ fn with_rest(
             let rest = Shared::new(alloc, rest)?;
             Ok(Some(Types::Cons(first.share()?, rest)))
         }
-    }
-}
-
-/// The new value, or the old one shared.
-fn kept<T: Drop>(alloc: Global, new: Option<T>, old: &Shared<T>) -> Mem<Shared<T>>
-    ensures ok { IfOk result (λ s. s ≡ unwrap_or new old.now) }
-    ensures memory { IfErr result (λ w. w ≡ Memory) }
-{
-    match new {
-        None => Ok(old.share()?),
-        Some(value) => Ok(Shared::new(alloc, value)?),
     }
 }

@@ -6,10 +6,10 @@ ghost use Rattle.iv_term.specs.declared.want.Want.TheVariants.{Memory};
 ghost use Rattle.iv_subst.specs.TySubst.{put_typ, put_typs, at};
 ghost use Rattle.iv_subst.specs.Solved.{solved, AreSolved};
 
-use crate::apply::{new_or_copy, with_args, with_parts};
+use crate::apply::{with_args, with_parts};
 use crate::heads::head;
 use crate::ty_subst::TySubst;
-use iv_term::{Mem, Typ, Types};
+use iv_term::{Mem, Typ, Types, new_or_copy};
 use std::alloc::Global;
 
 /// The type under assignments, or `None` where it stays.

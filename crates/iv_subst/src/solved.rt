@@ -8,13 +8,12 @@ ghost use Rattle.iv_subst.specs.TySubst.{put_typ, occurs, at};
 ghost use Rattle.iv_subst.specs.Unifier.{IsUnifier, IsSolved, unified, unified_under};
 ghost use Rattle.iv_subst.specs.Solved.{solved, AreSolved};
 
-use crate::apply::new_or_copy;
 use crate::heads::{head, is_inside};
 use crate::no_unify::NoUnify;
 use crate::puts::{replaced, spread};
 use crate::ty_subst::TySubst;
 use crate::unify::unify;
-use iv_term::{Mem, Name as VarName, Typ};
+use iv_term::{Mem, Name as VarName, Typ, new_or_copy};
 use std::alloc::Global;
 use std::marker::Model;
 

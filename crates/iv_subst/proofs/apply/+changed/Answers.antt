@@ -14,7 +14,7 @@ changed-returns-in-Fixed-clause-ok t c = rw c.in-Fixed.is
 
 pub changed-returns-in-Schematic-clause-ok : goal.changed-returns-in-Schematic-clause-ok
 unfolding put_typ
-changed-returns-in-Schematic-clause-ok t c = rw c.in-Schematic.is (value-changed _ _ _ _ c.value.ensures.ok c.get.ensures)
+changed-returns-in-Schematic-clause-ok t c = rw c.in-Schematic.is (value-changed _ _ _ _ c.copy_of.ensures.ok c.get.ensures)
 
 pub changed_all-returns-in-Nil-clause-ok : goal.changed_all-returns-in-Nil-clause-ok
 unfolding put_typs
