@@ -1,5 +1,4 @@
-//! What the rules conclude, as terms. Where a call may answer `Number`, it does so only where an index or a depth that is
-//! made on the way is 4,294,967,295 or more.
+//! What the rules conclude, as terms.
 ghost use Rattle.std.specs.Prelude.{◌≡◌, ◌++◌, IfOk, IfErr};
 ghost use Rattle.iv_term.specs.declared.want.Want.TheVariants.{Memory, Number};
 ghost use Rattle.iv_term.specs.declared.typ.Typ.TheBlock.{Nil as no_types};
@@ -18,7 +17,8 @@ use iv_hsub::{abstract_over, type_of};
 use iv_term::{Mem, Name, Term, Typ, Types};
 use std::alloc::Global;
 
-/// `!!x. p`. Fails where memory runs out, and with `Number`.
+/// `!!x. p`. Fails where memory runs out; with `Number` only where an index or a depth that is made on the way is
+/// 4,294,967,295 or more.
 pub fn quantified(alloc: Global, name: &Name, typ: &Typ, p: &Term) -> Mem<Term>
     ensures ok { IfOk result (λ r. r ≡ all typ.now (abstract_over name.now typ.now p.now)) }
     ensures number { IfErr result (λ w. w ≡ Number → IsPast (made_raise 1 0 p.now)) }
@@ -27,7 +27,8 @@ pub fn quantified(alloc: Global, name: &Name, typ: &Typ, p: &Term) -> Mem<Term>
     all(alloc, typ, &body)
 }
 
-/// What a quantified proposition says of a value. Fails where memory runs out, and with `Number`.
+/// What a quantified proposition says of a value. Fails where memory runs out; with `Number` only where an index or a
+/// depth that is made on the way is 4,294,967,295 or more.
 pub fn at_value(alloc: Global, value: &Term, p: &Term) -> Mem<Term>
     requires { CanAllElim value.now p.now }
     ensures ok { IfOk result (λ r. r ≡ app (fun (type_of no_types value.now) prop) (predicate p.now) value.now) }
@@ -63,7 +64,8 @@ pub fn joined(alloc: Global, p: &Term, q: &Term) -> Mem<Term>
     eq(alloc, side_type(p), lhs(p), rhs(q))
 }
 
-/// `f x == g y`, for equations `f == g` and `x == y`. Fails where memory runs out, and with `Number`.
+/// `f x == g y`, for equations `f == g` and `x == y`. Fails where memory runs out; with `Number` only where an index or a
+/// depth that is made on the way is 4,294,967,295 or more.
 pub fn applied(alloc: Global, p: &Term, q: &Term) -> Mem<Term>
     requires { CanComb p.now q.now }
     ensures ok { IfOk result (λ r. r ≡ eq (cod (side_type p.now)) (app (side_type p.now) (lhs p.now) (lhs q.now)) (app (side_type p.now) (rhs p.now) (rhs q.now))) }
@@ -76,7 +78,8 @@ pub fn applied(alloc: Global, p: &Term, q: &Term) -> Mem<Term>
     eq(alloc, cod(typ), &left, &right)
 }
 
-/// `(%x. s) == (%x. t)`, for an equation `s == t`. Fails where memory runs out, and with `Number`.
+/// `(%x. s) == (%x. t)`, for an equation `s == t`. Fails where memory runs out; with `Number` only where an index or a
+/// depth that is made on the way is 4,294,967,295 or more.
 pub fn abstracted(alloc: Global, name: &Name, typ: &Typ, p: &Term) -> Mem<Term>
     requires { IsEquation p.now }
     ensures ok { IfOk result (λ r. r ≡ eq (fun typ.now (side_type p.now)) (abstract_over name.now typ.now (lhs p.now)) (abstract_over name.now typ.now (rhs p.now))) }

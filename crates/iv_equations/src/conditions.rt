@@ -111,8 +111,8 @@ pub fn is_equal_to(p: &Term, q: &Term) -> bool
     side_type(p).is_prop() && lhs(p).is(q)
 }
 
-/// Whether two terms have one form with each `!!` in front of `==>`. Fails with `Number` only where an index or a depth
-/// that is made on the way is 4,294,967,295 or more.
+/// Whether two terms have one form with each `!!` in front of `==>`. Fails where memory runs out; with `Number` only where
+/// an index or a depth that is made on the way is 4,294,967,295 or more.
 fn are_one_form(alloc: Global, p: &Term, q: &Term) -> Mem<bool>
     ensures ok { IfOk result (λ b. IsTrue b ↔ (hhf p.now ≡ hhf q.now)) }
     ensures number { IfErr result (λ w. w ≡ Number → IsPast (made_hhf p.now ++ made_hhf q.now)) }
@@ -122,8 +122,8 @@ fn are_one_form(alloc: Global, p: &Term, q: &Term) -> Mem<bool>
     Ok(first.is(&second))
 }
 
-/// Whether the first is a proposition of one form with the second, with each `!!` in front of `==>`. Fails with `Number`
-/// only where an index or a depth that is made on the way is 4,294,967,295 or more.
+/// Whether the first is a proposition of one form with the second, with each `!!` in front of `==>`. Fails where memory
+/// runs out; with `Number` only where an index or a depth that is made on the way is 4,294,967,295 or more.
 pub fn have_one_form(alloc: Global, prop: &Term, p: &Term) -> Mem<bool>
     ensures ok { IfOk result (λ b. IsTrue b ↔ CanConv prop.now p.now) }
     ensures number { IfErr result (λ w. w ≡ Number → IsPast (made_hhf p.now ++ made_hhf prop.now)) }

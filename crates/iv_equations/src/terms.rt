@@ -48,8 +48,8 @@ pub fn all(alloc: Global, a: &Typ, f: &Term) -> Mem<Term>
     Ok(Term::Spine(Head::Const(name, typ), args))
 }
 
-/// `f x`, where f is of type `c`. Fails with `Number` only where an index or a depth that is made on the way is
-/// 4,294,967,295 or more.
+/// `f x`, where f is of type `c`. Fails where memory runs out; with `Number` only where an index or a depth that is made
+/// on the way is 4,294,967,295 or more.
 pub fn app(alloc: Global, c: &Typ, f: &Term, x: &Term) -> Mem<Term>
     ensures ok { IfOk result (λ r. r ≡ app c.now f.now x.now) }
     ensures number { IfErr result (λ w. w ≡ Number → IsPast (made_happ c.now f.now (one x.now))) }

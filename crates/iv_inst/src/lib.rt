@@ -1,8 +1,10 @@
 //! Instances put in terms.
 //!
 //! An [`Instance`](iv_rules::Instance) puts types for type variables, fixed and schematic, and terms for variables, which
-//! it finds by name and by the type after that. Terms are put all at once, by hereditary substitution. The tests say
-//! whether the rule of instantiation may use an instance; they take no memory.
+//! it finds by name and by the type after that. Terms are put all at once, by hereditary substitution: [`instanced`] in a
+//! term, [`instanced_hyps`] in hypotheses. Where [`are_values_typed`] and [`is_fresh_for`] hold, the rule of instantiation
+//! may use an instance; they take no memory. The laws are in [`laws`], as [`are_keys_apart`]. The kernel's rule stands on
+//! this crate.
 #![tactic(auto)]
 
 mod fresh;

@@ -23,8 +23,8 @@ use iv_term::{Head, Mem, Term, Terms, Typ};
 use std::alloc::Global;
 
 /// A term with the types of an instance put in it, and then all its terms at once, by hereditary substitution. What isn't
-/// touched is shared. Fails with `Number` only where an index or a depth that is made on the way is 4,294,967,295 or
-/// more.
+/// touched is shared. Fails where memory runs out; with `Number` only where an index or a depth that is made on the way
+/// is 4,294,967,295 or more.
 pub fn instanced(alloc: Global, s: &Instance, t: &Term) -> Mem<Term>
     requires { IsOpenTerm t.now }
     ensures ok { IfOk result (λ r. r ≡ instanced s.now t.now) }
@@ -36,8 +36,8 @@ pub fn instanced(alloc: Global, s: &Instance, t: &Term) -> Mem<Term>
     }
 }
 
-/// Hypotheses under an instance; those that become equal are kept once, at the first place. Fails with `Number` only
-/// where an index or a depth that is made on the way is 4,294,967,295 or more.
+/// Hypotheses under an instance; those that become equal are kept once, at the first place. Fails where memory runs out;
+/// with `Number` only where an index or a depth that is made on the way is 4,294,967,295 or more.
 pub fn instanced_hyps(alloc: Global, s: &Instance, hs: &Terms) -> Mem<Terms>
     requires { AreOpenTerms hs.now }
     ensures ok { IfOk result (λ r. r ≡ instanced_hyps s.now hs.now) }

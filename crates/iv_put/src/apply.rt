@@ -26,7 +26,8 @@ use std::alloc::Global;
 impl Subst {
     /// A term with the types put in it, and then all terms at once, by hereditary substitution: where each value has
     /// its variable's type, the result is a term, of the term's type with types put in. What isn't touched is shared.
-    /// Fails with `Number` only where an index or a depth that is made on the way is 4,294,967,295 or more.
+    /// Fails where memory runs out; with `Number` only where an index or a depth that is made on the way is 4,294,967,295
+    /// or more.
     pub fn apply(&self, alloc: Global, t: &Term) -> Mem<Term>
         requires { IsOpenTerm t.now }
         ensures ok { IfOk result (λ r. r ≡ applied self.now t.now) }

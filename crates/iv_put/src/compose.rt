@@ -14,7 +14,8 @@ use std::alloc::Global;
 
 impl Subst {
     /// The substitution that puts this one's types and terms, and then those of `next`. The entries of this one come
-    /// first. Fails with `Number` only where an index or a depth that is made on the way is 4,294,967,295 or more.
+    /// first. Fails where memory runs out; with `Number` only where an index or a depth that is made on the way is
+    /// 4,294,967,295 or more.
     pub fn compose(&self, alloc: Global, next: &Subst) -> Mem<Subst>
         requires { CanCompose self.now next.now }
         ensures ok { IfOk result (λ s. s ≡ composed self.now next.now) }

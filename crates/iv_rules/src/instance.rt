@@ -41,9 +41,13 @@ pub type SchematicTerms = VarTerms;
 /// all at once.
 #[derive(Drop)]
 pub struct Instance {
+    /// Types for fixed type variables.
     pub fixed: FixedTypes,
+    /// Types for schematic type variables.
     pub types: SchematicTypes,
+    /// Terms for free variables.
     pub frees: FreeTerms,
+    /// Terms for schematic variables.
     pub schematics: SchematicTerms,
 }
 
