@@ -1,19 +1,18 @@
 -- What the tests of terms decide, part by part.
-use Rattle.std.proofs.Common.{◌≡◌, ℕ, List, [], Bool, true, false, codes, refl, sym, ◌∙◌, ap, arith}
+use Rattle.std.proofs.Common.{◌≡◌, ℕ, List, [], Bool, true, false, refl, sym, ◌∙◌, ap}
 use Rattle.std.specs.Bool.{Decides}
+use Rattle.iv_term.specs.declared.name.Name.{Name}
 use Rattle.iv_term.specs.declared.typ.Typ.{Typ}
 use Rattle.iv_term.specs.declared.term.Head.{Head}
-use Rattle.iv_term.specs.declared.term.Head.TheVariants.{Const, Bound}
+use Rattle.iv_term.specs.declared.term.Head.TheVariants.{Const, Free, Schematic, Bound}
 use Rattle.iv_term.specs.declared.term.Term.{Term}
 use Rattle.iv_term.specs.declared.term.Terms.{Terms}
 use Rattle.iv_term.specs.declared.term.Term.TheBlock.{Spine, Nil}
-use Rattle.iv_term.specs.Typ.{prop, fun, ty_cons}
-use Rattle.iv_term.specs.Term.{lam, tm_cons, first_or, rest_of, is_one, are_two}
-use Rattle.iv_term.specs.declared.typ.Typ.TheBlock.{Con, Nil as no_types}
-use Rattle.iv_hsub.specs.Typing.{dom, cod, types_len, head_type, result_type, type_of, IsHead, IsTerm, HasType}
-use Rattle.iv_hsub.specs.Hhf.{all_typ, all_head}
+use Rattle.iv_term.specs.Typ.{prop, fun}
+use Rattle.iv_term.specs.Term.{lam, tm_cons, first_or, rest_of, are_two}
+use Rattle.iv_term.specs.declared.typ.Typ.TheBlock.{Nil as no_types}
+use Rattle.iv_hsub.specs.Typing.{dom, cod, type_of, HasType}
 use Rattle.iv_rules.specs.Equality.{eq_head, head_dom, eq, lhs, rhs, side_type, IsEquation, all, predicate}
-use Rattle.iv_rules.specs.Sequent.{IsProp}
 use Rattle.iv_rules.specs.Conditions.{CanAllElim}
 use Rattle.iv_equations.specs.Quantified.{predicate_type, domain, IsQuantified}
 
@@ -58,15 +57,6 @@ pub eq_typ_no : (a : Typ) (b : Bool) → Decides b (a ≡ fun (dom a) (cod a)) �
 unfolding cod
 eq_typ_no a b = first_no (a ≡ fun (dom a) (cod a)) (a ≡ eq_typ a) b (λ r. r ∙ ap (fun (dom a)) (sym (ap cod r)))
 
-pub all_typ_yes : (a : Typ) (b : Bool) → dom a ≡ fun (dom (dom a)) prop → Decides b (a ≡ fun (dom a) prop) → Decides b (a ≡ all_typ (dom (dom a)))
-unfolding dom
-all_typ_yes a b =
-    both_yes (dom a ≡ fun (dom (dom a)) prop) (a ≡ fun (dom a) prop) (a ≡ all_typ (dom (dom a))) b (λ r. r ∙ ap (λ z. fun z prop) (sym (ap dom r))) (λ e f. f ∙ ap (λ z. fun z prop) e)
-
-pub all_typ_no : (a : Typ) (b : Bool) → Decides b (dom a ≡ fun (dom (dom a)) prop) → b ≡ false → Decides b (a ≡ all_typ (dom (dom a)))
-unfolding dom
-all_typ_no a b = first_no (dom a ≡ fun (dom (dom a)) prop) (a ≡ all_typ (dom (dom a))) b (λ r. ap dom r)
-
 -- heads
 const_name : Head → List ℕ
 const_name (Const c a) = c
@@ -93,11 +83,6 @@ args_of : Term → Terms
 args_of (lam a b) = Nil
 args_of (Spine h ts) = ts
 
-is-one : (d : Term) (ts : Terms) → is_one ts ≡ true → ts ≡ tm_cons (first_or d ts) Nil
-is-one d Nil h = absurd (let bad : false ≡ true = h in cc)
-is-one d (tm_cons t Nil) h = refl
-is-one d (tm_cons t (tm_cons u us)) h = absurd (let bad : false ≡ true = h in cc)
-
 are-two : (d : Term) (ts : Terms) → are_two ts ≡ true → ts ≡ tm_cons (first_or d ts) (tm_cons (first_or d (rest_of ts)) Nil)
 are-two d Nil h = absurd (let bad : false ≡ true = h in cc)
 are-two d (tm_cons t Nil) h = absurd (let bad : false ≡ true = h in cc)
@@ -117,23 +102,36 @@ equation-head h ts r = ap (head_of h) r
 pub equation_no : (h : Head) (ts : Terms) (b : Bool) → Decides b (h ≡ eq_head (head_dom h)) → b ≡ false → Decides b (IsEquation (Spine h ts))
 equation_no h ts b = first_no (h ≡ eq_head (head_dom h)) (IsEquation (Spine h ts)) b (equation-head h ts)
 
-pub quantified_yes : (h : Head) (ts : Terms) (b : Bool) → h ≡ all_head (dom (head_dom h)) → b ≡ is_one ts → Decides b (IsQuantified (Spine h ts))
-unfolding args_of
-quantified_yes h ts b e d =
-    both_yes (h ≡ all_head (dom (head_dom h))) (is_one ts ≡ true) (IsQuantified (Spine h ts)) b
-    (λ r. ap (λ t. is_one (args_of t)) r) (λ p q i. Spine (p i) (is-one (Spine h ts) ts q i)) e (told b (is_one ts) d)
+-- a head that is a constant
+abbrev IsConst : Head → Type 0
+IsConst h = (c : List ℕ) × ((a : Typ) × (h ≡ Const c a))
 
-pub quantified-head : (h : Head) (ts : Terms) → IsQuantified (Spine h ts) → h ≡ all_head (dom (head_dom h))
+pub no-free : (x : Name) (a : Typ) → IsConst (Free x a) → ⊥
+no-free x a p = let bad : Free x a ≡ Const p.0 p.1.0 = p.1.1 in cc
+
+pub no-schematic : (x : Name) (a : Typ) → IsConst (Schematic x a) → ⊥
+no-schematic x a p = let bad : Schematic x a ≡ Const p.0 p.1.0 = p.1.1 in cc
+
+pub no-bound : (n : ℕ) → IsConst (Bound n) → ⊥
+no-bound n p = let bad : Bound n ≡ Const p.0 p.1.0 = p.1.1 in cc
+
+pub equation-const : (h : Head) (ts : Terms) → IsEquation (Spine h ts) → IsConst h
+equation-const h ts r = (_, (_, equation-head h ts r))
+
+pub quantified-const : (h : Head) (ts : Terms) → IsQuantified (Spine h ts) → IsConst h
 unfolding head_of
-quantified-head h ts r = ap (head_of h) r
-
-pub quantified_no : (h : Head) (ts : Terms) (b : Bool) → Decides b (h ≡ all_head (dom (head_dom h))) → b ≡ false → Decides b (IsQuantified (Spine h ts))
-quantified_no h ts b = first_no (h ≡ all_head (dom (head_dom h))) (IsQuantified (Spine h ts)) b (quantified-head h ts)
+quantified-const h ts r = (_, (_, ap (head_of h) r))
 
 -- a predicate at a known type
 pub quantified-is : (a : Typ) (p : Term) → p ≡ all a (predicate p) → IsQuantified p
 unfolding dom
 quantified-is a p e = e ∙ ap (λ z. all z (predicate p)) (sym (ap domain e))
+
+pub quantified : (p : Term) (b : Bool) → Decides b ((a : Typ) × ((f : Term) × (p ≡ all a f))) → Decides b (IsQuantified p)
+quantified p b d = (
+  λ h. let s = d.0 h in quantified-is s.0 p (s.1.1 ∙ ap (λ f. all s.0 f) (sym (ap predicate s.1.1))),
+  λ r. d.1 (domain p, (predicate p, r)),
+)
 
 pub predicate_type-is : (a : Typ) (p : Term) → p ≡ all a (predicate p) → predicate_type p ≡ fun a prop
 unfolding dom
@@ -166,24 +164,3 @@ not_first A R b out d e = (λ h. absurd (let bad : false ≡ true = h in cc), λ
 
 pub begins_not : (q : Term) (a : Typ) (s : Term) (b : Bool) → Decides b (IsEquation q) → b ≡ false → Decides false (q ≡ eq a s (rhs q))
 begins_not q a s b = not_first (IsEquation q) (q ≡ eq a s (rhs q)) b (begins-is q a s)
-
--- propositions
-con_name : Typ → List ℕ
-con_name (Con c ts) = c
-con_name a = []
-
-differ : (a b : Typ) → fun a b ≡ prop → ⊥
-unfolding con_name
-differ a b e = let bad : codes "fun" ≡ codes "prop" = ap con_name e in cc
-
-pub no-abstraction : (a : Typ) (b : Term) → Decides false (IsProp (lam a b))
-unfolding type_of
-no-abstraction a b = (λ h. absurd (let bad : false ≡ true = h in cc), λ h. absurd (differ a (type_of (ty_cons a no_types) b) h.1))
-
-pub prop_yes : (h : Head) (ts : Terms) (b : Bool) → IsTerm no_types (Spine h ts) → (IsHead no_types h → Decides b (result_type (head_type no_types h) ts ≡ prop)) → Decides b (IsProp (Spine h ts))
-unfolding type_of
-prop_yes h ts b t d = let e = d t.0 in (λ k. (t, e.0 k), λ k. e.1 k.1)
-
-pub no-index : (n : ℕ) (ts : Terms) → IsHead no_types (Bound n) → Decides false (result_type (head_type no_types (Bound n)) ts ≡ prop)
-unfolding types_len
-no-index n ts h = absurd (omega (arith, h))

@@ -1,53 +1,19 @@
 //! Tests of what the rules ask of their arguments and premises. None takes memory, but for [`have_one_form`].
 ghost use Rattle.std.specs.Prelude.{◌≡◌, ◌++◌, IfOk, IfErr, IsTrue, ◌↔◌};
 ghost use Rattle.iv_term.specs.declared.want.Want.TheVariants.{Number};
-ghost use Rattle.iv_term.specs.declared.typ.Typ.TheBlock.{Nil as no_types};
-ghost use Rattle.iv_term.specs.Typ.{prop, fun};
-ghost use Rattle.iv_hsub.specs.Typing.{cod, result_type, head_type, IsHead};
 ghost use Rattle.iv_hsub.specs.Made.{IsPast, made_hhf};
 ghost use Rattle.iv_hsub.specs.Hhf.{hhf};
 ghost use Rattle.iv_term.specs.Term.{imp};
-ghost use Rattle.iv_rules.specs.Equality.{IsEquation, side_type, lhs, rhs, eq};
-ghost use Rattle.iv_rules.specs.Sequent.{IsProp};
+ghost use Rattle.iv_rules.specs.Equality.{rhs, eq};
 ghost use Rattle.iv_rules.specs.Conditions.{CanImpElim, CanAllElim, CanTrans, CanComb, CanEqIntr, CanEqElim, CanConv};
 
-use crate::terms::{is_equation, is_quantified, lhs, predicate_type, rhs, side_type, takes};
-use iv_hsub::typing::{cod, dom, has_type};
-use iv_hsub::{hhf, is_term};
-use iv_term::{Head, Mem, Term, Terms, Typ, Types};
+use crate::terms::{is_equation, lhs, predicate_type, rhs, side_type, takes};
+use iv_hsub::harrop::is_quantified;
+pub use iv_hsub::is_prop;
+use iv_hsub::typing::dom;
+use iv_hsub::{has_type, hhf};
+use iv_term::{Mem, Term, Typ, Types};
 use std::alloc::Global;
-
-/// Whether what has type `a` is of type `prop` at some arguments.
-fn leads_to_prop(ts: &Terms, a: &Typ) -> bool
-    ensures { IsTrue result ↔ (result_type a.now ts.now ≡ prop) }
-{
-    match ts {
-        Terms::Nil => a.is_prop(),
-        Terms::Cons(_t, rest) => leads_to_prop(rest.get(), cod(a)),
-    }
-}
-
-/// Whether a head that isn't bound is of type `prop` at some arguments.
-fn makes_prop(h: &Head, ts: &Terms) -> bool
-    ensures { IsHead no_types h.now → (IsTrue result ↔ (result_type (head_type no_types h.now) ts.now ≡ prop)) }
-{
-    match h {
-        Head::Const(_c, a) => leads_to_prop(ts, a),
-        Head::Free(_x, a) => leads_to_prop(ts, a),
-        Head::Schematic(_x, a) => leads_to_prop(ts, a),
-        Head::Bound(_n) => false,
-    }
-}
-
-/// Whether a tree is a proposition without loose indices.
-pub fn is_prop(t: &Term) -> bool
-    ensures { IsTrue result ↔ IsProp t.now }
-{
-    match t {
-        Term::Abs(_a, _b) => false,
-        Term::Spine(h, ts) => is_term(t, &Types::Nil) && makes_prop(h, ts),
-    }
-}
 
 /// Whether one proposition is an implication from another.
 pub fn is_implication_from(p: &Term, q: &Term) -> bool

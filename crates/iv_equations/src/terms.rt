@@ -1,35 +1,27 @@
 //! Terms that are equations or quantified: built, told apart, and taken apart.
-ghost use Rattle.std.specs.Prelude.{◌≡◌, true, IfOk, IfErr, IsTrue, ◌↔◌};
+ghost use Rattle.std.specs.Prelude.{◌≡◌, ℕ, List, IfOk, IfErr, IsTrue, ◌↔◌};
 ghost use Rattle.iv_term.specs.declared.want.Want.TheVariants.{Memory, Number};
+ghost use Rattle.iv_term.specs.declared.typ.Typ.{Typ};
+ghost use Rattle.iv_term.specs.declared.term.Head.TheVariants.{Const};
 ghost use Rattle.iv_term.specs.Typ.{prop, fun};
-ghost use Rattle.iv_term.specs.Term.{is_one, are_two};
 ghost use Rattle.iv_hsub.specs.Typing.{dom, cod};
 ghost use Rattle.iv_hsub.specs.Made.{IsPast, made_happ};
-ghost use Rattle.iv_hsub.specs.Hhf.{all_typ, all_head, one};
+ghost use Rattle.iv_hsub.specs.Hhf.{one};
 ghost use Rattle.iv_rules.specs.Equality.{eq_head, eq, lhs, rhs, head_dom, side_type, IsEquation, all, predicate, app};
-ghost use Rattle.iv_equations.specs.Quantified.{predicate_type, domain, IsQuantified};
+ghost use Rattle.iv_equations.specs.Quantified.{predicate_type, IsQuantified};
 
+use iv_hsub::constants::{all_typ, eq_typ};
 use iv_hsub::happ;
 use iv_hsub::typing::{cod, dom, is_fun};
 use iv_term::{Head, Mem, Term, Terms, Text, Typ};
 use std::alloc::Global;
-
-/// The type of functions from `a` to propositions. Fails where memory runs out.
-fn predicate_on(alloc: Global, a: &Typ) -> Mem<Typ>
-    ensures ok { IfOk result (λ r. r ≡ fun a.now prop) }
-    ensures memory { IfErr result (λ w. w ≡ Memory) }
-{
-    let prop = Typ::prop(alloc)?;
-    Typ::fun(alloc, a.copy()?, prop)
-}
 
 /// The equation `s == t` of terms of type `a`. Fails where memory runs out.
 pub fn eq(alloc: Global, a: &Typ, s: &Term, t: &Term) -> Mem<Term>
     ensures ok { IfOk result (λ r. r ≡ eq a.now s.now t.now) }
     ensures memory { IfErr result (λ w. w ≡ Memory) }
 {
-    let inner = predicate_on(alloc, a)?;
-    let typ = Typ::fun(alloc, a.copy()?, inner)?;
+    let typ = eq_typ(alloc, a)?;
     let name = Text::from_slice(alloc, &['=', '='])?;
     let last = Terms::only(alloc, t)?;
     let sides = Terms::cons(alloc, s.copy()?, last)?;
@@ -41,8 +33,7 @@ pub fn all(alloc: Global, a: &Typ, f: &Term) -> Mem<Term>
     ensures ok { IfOk result (λ r. r ≡ all a.now f.now) }
     ensures memory { IfErr result (λ w. w ≡ Memory) }
 {
-    let predicate = predicate_on(alloc, a)?;
-    let typ = Typ::fun(alloc, predicate, Typ::prop(alloc)?)?;
+    let typ = all_typ(alloc, a)?;
     let name = Text::from_slice(alloc, &['!', '!'])?;
     let args = Terms::only(alloc, f)?;
     Ok(Term::Spine(Head::Const(name, typ), args))
@@ -79,14 +70,6 @@ fn is_eq_typ(a: &Typ) -> bool
     is_fun(a) && is_predicate_on(cod(a), dom(a))
 }
 
-/// Whether a type is that of a `!!`.
-fn is_all_typ(a: &Typ) -> bool
-    ensures { IsTrue result ↔ (a.now ≡ all_typ (dom (dom a.now))) }
-{
-    let predicate = dom(a);
-    is_predicate_on(predicate, dom(predicate)) && is_predicate_on(a, predicate)
-}
-
 /// Whether a head is `==`.
 fn is_eq(h: &Head) -> bool
     ensures { IsTrue result ↔ (h.now ≡ eq_head (head_dom h.now)) }
@@ -99,55 +82,13 @@ fn is_eq(h: &Head) -> bool
     }
 }
 
-/// Whether a head is `!!`.
-fn is_all(h: &Head) -> bool
-    ensures { IsTrue result ↔ (h.now ≡ all_head (dom (head_dom h.now))) }
-{
-    match h {
-        Head::Const(c, a) => c.is_chars(&['!', '!']) && is_all_typ(a),
-        Head::Free(_x, _a) => false,
-        Head::Schematic(_x, _a) => false,
-        Head::Bound(_n) => false,
-    }
-}
-
-/// Whether there is one term.
-fn is_one(ts: &Terms) -> bool
-    ensures { result ≡ is_one ts.now }
-{
-    match ts {
-        Terms::Nil => false,
-        Terms::Cons(_first, rest) => rest.get().is_nil(),
-    }
-}
-
-/// Whether there are two terms.
-fn are_two(ts: &Terms) -> bool
-    ensures { result ≡ are_two ts.now }
-{
-    match ts {
-        Terms::Nil => false,
-        Terms::Cons(_first, rest) => is_one(rest.get()),
-    }
-}
-
 /// Whether a term is an equation. Takes no memory.
 pub fn is_equation(t: &Term) -> bool
     ensures { IsTrue result ↔ IsEquation t.now }
 {
     match t {
         Term::Abs(_a, _b) => false,
-        Term::Spine(h, ts) => is_eq(h) && are_two(ts),
-    }
-}
-
-/// Whether a term is `!!` at a predicate. Takes no memory.
-pub fn is_quantified(t: &Term) -> bool
-    ensures { IsTrue result ↔ IsQuantified t.now }
-{
-    match t {
-        Term::Abs(_a, _b) => false,
-        Term::Spine(h, ts) => is_all(h) && is_one(ts),
+        Term::Spine(h, ts) => is_eq(h) && ts.are_two(),
     }
 }
 
@@ -165,22 +106,9 @@ pub fn rhs(t: &Term) -> &Term
     t.consequent()
 }
 
-/// The type of the first argument of an `==`.
-fn eq_dom(h: &Head) -> &Typ
-    requires { h.now ≡ eq_head (head_dom h.now) }
-    ensures { result.now ≡ head_dom h.now }
-{
-    match h {
-        Head::Const(_c, a) => dom(a),
-        Head::Free(_x, a) => a,
-        Head::Schematic(_x, a) => a,
-        Head::Bound(_n) => unreachable!(),
-    }
-}
-
-/// The type of the first argument of a `!!`.
-fn all_dom(h: &Head) -> &Typ
-    requires { h.now ≡ all_head (dom (head_dom h.now)) }
+/// The type of the first argument of a constant.
+fn const_dom(h: &Head) -> &Typ
+    requires { (c : List ℕ) × ((a : Typ) × (h.now ≡ Const c a)) }
     ensures { result.now ≡ head_dom h.now }
 {
     match h {
@@ -198,7 +126,7 @@ pub fn side_type(t: &Term) -> &Typ
 {
     match t {
         Term::Abs(a, _b) => a,
-        Term::Spine(h, _ts) => eq_dom(h),
+        Term::Spine(h, _ts) => const_dom(h),
     }
 }
 
@@ -216,6 +144,6 @@ pub fn predicate_type(t: &Term) -> &Typ
 {
     match t {
         Term::Abs(a, _b) => a,
-        Term::Spine(h, _ts) => all_dom(h),
+        Term::Spine(h, _ts) => const_dom(h),
     }
 }

@@ -17,9 +17,9 @@ ghost use Rattle.iv_inst.specs.Made.{made_instanced, made_instanced_all};
 use crate::types::changed_head;
 use iv_hsub::happ;
 use iv_put::apply::with_body;
-use iv_put::retyping::{new_or_copy, with_args, with_parts};
+use iv_put::retyping::{with_args, with_parts};
 use iv_rules::Instance;
-use iv_term::{Head, Mem, Term, Terms, Typ};
+use iv_term::{Head, Mem, Term, Terms, Typ, new_or_copy};
 use std::alloc::Global;
 
 /// A term with the types of an instance put in it, and then all its terms at once, by hereditary substitution. What isn't

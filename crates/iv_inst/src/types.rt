@@ -7,8 +7,8 @@ ghost use Rattle.iv_rules.specs.Instance.{types_of};
 
 use iv_put::retyping::{constant, free, schematic};
 use iv_rules::Instance;
-use iv_subst::apply::{value, with_args, with_parts};
-use iv_term::{Head, Mem, Typ, Types};
+use iv_subst::apply::{with_args, with_parts};
+use iv_term::{Head, Mem, Typ, Types, copy_of};
 use std::alloc::Global;
 
 /// The type under an instance, or `None` where it stays.
@@ -22,8 +22,8 @@ pub(crate) fn changed(alloc: Global, a: &Typ, s: &Instance) -> Mem<Option<Typ>>
             let args = changed_all(alloc, ts, s)?;
             with_args(c, args)
         }
-        Typ::Fixed(x) => value(s.fixed.get(x)),
-        Typ::Schematic(x) => value(s.types.get(x)),
+        Typ::Fixed(x) => copy_of(s.fixed.get(x)),
+        Typ::Schematic(x) => copy_of(s.types.get(x)),
     }
 }
 

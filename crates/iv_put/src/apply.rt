@@ -16,11 +16,11 @@ ghost use Rattle.iv_put.specs.Inst.{inst_head, inst_all};
 ghost use Rattle.iv_put.specs.Subst.{by_map, values, applied, CanApply, IsOpenTerm, IsShort, AreShort};
 ghost use Rattle.iv_put.specs.Made.{made_inst_head, made_inst_all, made_applied};
 
-use crate::retyping::{changed_head, changed_typ, new_or_copy, with_args, with_parts};
+use crate::retyping::{changed_head, changed_typ, with_args, with_parts};
 use crate::substitution::Subst;
 use iv_hsub::{eta, happ};
 use iv_shared::Shared;
-use iv_term::{Head, Mem, Term, Terms, Typ};
+use iv_term::{Head, Mem, Term, Terms, Typ, new_or_copy};
 use std::alloc::Global;
 
 impl Subst {
@@ -113,20 +113,9 @@ pub fn with_body(
             Some(body) => Ok(Some(eta(alloc, a, body)?)),
         },
         Some(typ) => {
-            let body = new_or_same(body, old)?;
+            let body = new_or_copy(body, old.get())?;
             Ok(Some(eta(alloc, &typ, body)?))
         }
-    }
-}
-
-/// The new body, if there is one, or a copy of the old one.
-fn new_or_same(new: Option<Term>, old: &Shared<Term>) -> Mem<Term>
-    ensures ok { IfOk result (λ t. t ≡ unwrap_or new old.now) }
-    ensures memory { IfErr result (λ w. w ≡ Memory) }
-{
-    match new {
-        None => old.get().copy(),
-        Some(term) => Ok(term),
     }
 }
 

@@ -14,7 +14,7 @@ ghost use Rattle.iv_put.specs.Subst.{by_map};
 
 use iv_shared::Shared;
 use iv_subst::TySubst;
-use iv_term::{Head, Mem, Name, Term, Terms, Text, Typ};
+use iv_term::{Head, Mem, Name, Term, Terms, Text, Typ, new_or_copy, new_or_shared};
 use std::alloc::Global;
 
 /// A term with the map's types in the place of the schematic variables in its types. What holds no variable of the map
@@ -154,7 +154,7 @@ fn with_body(
             }
         },
         Some(typ) => {
-            let body = kept(alloc, body, old)?;
+            let body = new_or_shared(alloc, body, old)?;
             Ok(Some(Term::Abs(typ, body)))
         }
     }
@@ -182,17 +182,6 @@ pub fn with_args(
     }
 }
 
-/// The new arguments, if there are any, or a copy of the old ones. Fails where memory runs out.
-pub fn new_or_copy(new: Option<Terms>, old: &Terms) -> Mem<Terms>
-    ensures ok { IfOk result (λ ts. ts ≡ unwrap_or new old.now) }
-    ensures memory { IfErr result (λ w. w ≡ Memory) }
-{
-    match new {
-        None => old.copy(),
-        Some(terms) => Ok(terms),
-    }
-}
-
 /// A list of terms where the first or the rest may be new. Fails where memory runs out.
 pub fn with_parts(
     alloc: Global,
@@ -209,7 +198,7 @@ pub fn with_parts(
         None => with_rest(alloc, old_first, rest, old_rest),
         Some(first) => {
             let first = Shared::new(alloc, first)?;
-            let rest = kept(alloc, rest, old_rest)?;
+            let rest = new_or_shared(alloc, rest, old_rest)?;
             Ok(Some(Terms::Cons(first, rest)))
         }
     }
@@ -231,16 +220,5 @@ fn with_rest(
             let rest = Shared::new(alloc, rest)?;
             Ok(Some(Terms::Cons(first.share()?, rest)))
         }
-    }
-}
-
-/// The new value, or the old one shared.
-pub(crate) fn kept<T: Drop>(alloc: Global, new: Option<T>, old: &Shared<T>) -> Mem<Shared<T>>
-    ensures ok { IfOk result (λ s. s ≡ unwrap_or new old.now) }
-    ensures memory { IfErr result (λ w. w ≡ Memory) }
-{
-    match new {
-        None => Ok(old.share()?),
-        Some(value) => Ok(Shared::new(alloc, value)?),
     }
 }

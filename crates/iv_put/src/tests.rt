@@ -1,3 +1,7 @@
+//! Types and terms are written as texts, which are read from the last letter on.
+//!
+//! A type is a letter, where `a` is a schematic variable, or `> a b` for functions. A term is a letter, `h t u` in round
+//! brackets, a digit for a bound variable, or an abstraction by `%` or `^`. `kind` has the type of each letter.
 use crate::*;
 use iv_hsub::is_term;
 use iv_shared::Shared;
@@ -11,197 +15,200 @@ fn got<T>(rt: &impl Abort, made: Mem<T>) -> T {
     made.expect(rt, "memory")
 }
 
-/// The type i.
-fn i(alloc: Global) -> Mem<Typ> {
-    Ok(Typ::Con(Text::from_slice(alloc, &['i'])?, Types::Nil))
+/// The first two types as a type of functions, and the others.
+fn function(rt: &impl Abort, alloc: Global, types: &Types) -> Types {
+    match types {
+        Types::Cons(a, more) => match more.get() {
+            Types::Cons(b, rest) => {
+                let a = got(rt, a.get().copy());
+                let b = got(rt, b.get().copy());
+                let rest = got(rt, rest.get().copy());
+                got(rt, Types::cons(alloc, got(rt, Typ::fun(alloc, a, b)), rest))
+            }
+            Types::Nil => panic!(rt; "no type"),
+        },
+        Types::Nil => panic!(rt; "no type"),
+    }
 }
 
-/// The type i => i.
-fn ii(alloc: Global) -> Mem<Typ> {
-    Typ::fun(alloc, i(alloc)?, i(alloc)?)
+fn name(rt: &impl Abort, alloc: Global, letter: char) -> Name {
+    let text = got(rt, Text::from_slice(alloc, &[letter]));
+    Name { text, number: 0 }
 }
 
-/// The type a => i => i.
-fn to_ii(alloc: Global, a: Typ) -> Mem<Typ> {
-    Typ::fun(alloc, a, ii(alloc)?)
+/// The type of a letter.
+fn named(rt: &impl Abort, alloc: Global, letter: char) -> Typ {
+    match letter {
+        'a' => Typ::Schematic(name(rt, alloc, letter)),
+        _ => Typ::Con(got(rt, Text::from_slice(alloc, &[letter])), Types::Nil),
+    }
 }
 
-fn name(alloc: Global, letter: char) -> Mem<Name> {
-    let text = Text::from_slice(alloc, &[letter])?;
-    Ok(Name { text, number: 0 })
+fn typ(rt: &impl Abort, alloc: Global, written: &str) -> Typ {
+    let mut types = Types::Nil;
+    for letter in written.chars().rev() {
+        types = match letter {
+            '>' => function(rt, alloc, &types),
+            _ => got(rt, Types::cons(alloc, named(rt, alloc, letter), types)),
+        };
+    }
+    match types {
+        Types::Cons(first, _rest) => got(rt, first.get().copy()),
+        Types::Nil => panic!(rt; "no type"),
+    }
 }
 
-/// A free variable at arguments.
-fn free(alloc: Global, letter: char, typ: Typ, args: Terms) -> Mem<Term> {
-    Ok(Term::Spine(Head::Free(name(alloc, letter)?, typ), args))
+/// The type of a variable, or that over which a sign abstracts.
+fn kind(letter: char) -> &'static str {
+    match letter {
+        '^' | 'f' => ">ii",
+        'F' => ">>iii",
+        'g' | 'h' => ">i>ii",
+        'H' => ">a>ii",
+        'Y' => "a",
+        _ => "i",
+    }
 }
 
-/// A schematic variable at arguments.
-fn var(alloc: Global, letter: char, typ: Typ, args: Terms) -> Mem<Term> {
-    Ok(Term::Spine(Head::Schematic(name(alloc, letter)?, typ), args))
+/// A schematic variable, or a free one for `c`, `h` and `H`; `H` is h again, and `Y` is y, of another type.
+fn head(rt: &impl Abort, alloc: Global, letter: char) -> Head {
+    let a = typ(rt, alloc, kind(letter));
+    match letter {
+        'c' | 'h' => Head::Free(name(rt, alloc, letter), a),
+        'H' => Head::Free(name(rt, alloc, 'h'), a),
+        'Y' => Head::Schematic(name(rt, alloc, 'y'), a),
+        _ => Head::Schematic(name(rt, alloc, letter), a),
+    }
 }
 
-fn bound(n: u32) -> Term {
-    Term::Spine(Head::Bound(n), Terms::Nil)
+fn atom(rt: &impl Abort, alloc: Global, letter: char) -> Term {
+    match letter.to_digit(10) {
+        Some(n) => Term::Spine(Head::Bound(n), Terms::Nil),
+        None => Term::Spine(head(rt, alloc, letter), Terms::Nil),
+    }
 }
 
-/// %x. b, with x of type i.
-fn lam(alloc: Global, body: Term) -> Mem<Term> {
-    Ok(Term::Abs(i(alloc)?, Shared::new(alloc, body)?))
+/// The first of some terms at the others.
+fn at_others(rt: &impl Abort, terms: &Terms) -> Term {
+    match terms {
+        Terms::Cons(first, args) => match first.get() {
+            Term::Spine(h, _none) => Term::Spine(got(rt, h.copy()), got(rt, args.get().copy())),
+            Term::Abs(_a, _b) => panic!(rt; "no head"),
+        },
+        Terms::Nil => panic!(rt; "no head"),
+    }
 }
 
-fn one(alloc: Global, t: Term) -> Mem<Terms> {
-    Terms::cons(alloc, t, Terms::Nil)
+/// The first of some terms under a binder, and the others.
+fn bind(rt: &impl Abort, alloc: Global, a: Typ, terms: Terms) -> Terms {
+    match terms {
+        Terms::Cons(body, rest) => {
+            let first = Shared::new(alloc, Term::Abs(a, body)).expect(rt, "memory");
+            Terms::Cons(first, rest)
+        }
+        Terms::Nil => panic!(rt; "no term"),
+    }
 }
 
-fn two(alloc: Global, t: Term, u: Term) -> Mem<Terms> {
-    Terms::cons(alloc, t, one(alloc, u)?)
+fn terms(rt: &impl Abort, alloc: Global, written: &str) -> Terms {
+    let mut outer = Vec::new(alloc);
+    let mut terms = Terms::Nil;
+    for letter in written.chars().rev() {
+        terms = match letter {
+            ' ' => terms,
+            ')' => {
+                outer.push(terms).expect(rt, "memory");
+                Terms::Nil
+            }
+            '(' => {
+                let rest = outer.pop().expect(rt, "no bracket");
+                got(rt, Terms::cons(alloc, at_others(rt, &terms), rest))
+            }
+            '%' | '^' => bind(rt, alloc, typ(rt, alloc, kind(letter)), terms),
+            _ => got(rt, Terms::cons(alloc, atom(rt, alloc, letter), terms)),
+        };
+    }
+    terms
 }
 
-/// The free variable c of type i.
-fn c(alloc: Global) -> Mem<Term> {
-    free(alloc, 'c', i(alloc)?, Terms::Nil)
+fn term(rt: &impl Abort, alloc: Global, written: &str) -> Term {
+    match terms(rt, alloc, written) {
+        Terms::Cons(first, _rest) => got(rt, first.get().copy()),
+        Terms::Nil => panic!(rt; "no term"),
+    }
 }
 
-/// h t u, with h of type i => i => i.
-fn h(alloc: Global, t: Term, u: Term) -> Mem<Term> {
-    free(alloc, 'h', to_ii(alloc, i(alloc)?)?, two(alloc, t, u)?)
-}
-
-/// ?y, of type i.
-fn y(alloc: Global) -> Mem<Term> {
-    var(alloc, 'y', i(alloc)?, Terms::Nil)
-}
-
-/// The substitution of one term, and of types.
-fn with(rt: &impl Abort, alloc: Global, types: TySubst, letter: char, value: Term) -> Subst {
+/// The substitution of types, and of one term.
+fn with(rt: &impl Abort, alloc: Global, types: TySubst, letter: char, value: &str) -> Subst {
     let mut s = Subst::new(alloc, types);
-    let x = got(rt, name(alloc, letter));
+    let x = name(rt, alloc, letter);
+    let value = term(rt, alloc, value);
     assert!(rt; !s.has(&x));
     assert!(rt; is_term(&value, &Types::Nil));
     got(rt, s.push(alloc, x, value));
     s
 }
 
-fn just(rt: &impl Abort, alloc: Global, letter: char, value: Term) -> Subst {
+fn just(rt: &impl Abort, alloc: Global, letter: char, value: &str) -> Subst {
     with(rt, alloc, TySubst::new(alloc), letter, value)
 }
 
-/// What a closed term becomes, where the values fit.
-fn applied(rt: &impl Abort, alloc: Global, s: &Subst, t: &Term) -> Term {
-    assert!(rt; is_term(t, &Types::Nil));
-    assert!(rt; s.can_apply(t));
-    got(rt, s.apply(alloc, t))
-}
-
-/// %g. g c, and ?F (%x. h x x).
-fn at_c(alloc: Global) -> Mem<Term> {
-    let body = Term::Spine(Head::Bound(0), one(alloc, c(alloc)?)?);
-    Ok(Term::Abs(ii(alloc)?, Shared::new(alloc, body)?))
-}
-
-fn of_twice(alloc: Global) -> Mem<Term> {
-    let twice = lam(alloc, h(alloc, bound(0), bound(0))?)?;
-    let typ = Typ::fun(alloc, ii(alloc)?, i(alloc)?)?;
-    var(alloc, 'F', typ, one(alloc, twice)?)
+/// Whether the values fit a closed term, and it becomes another one.
+fn becomes(rt: &impl Abort, alloc: Global, s: &Subst, written: &str, wanted: &str) -> bool {
+    let t = term(rt, alloc, written);
+    assert!(rt; is_term(&t, &Types::Nil));
+    assert!(rt; s.can_apply(&t));
+    let result = got(rt, s.apply(alloc, &t));
+    result.is(&term(rt, alloc, wanted))
 }
 
 /// (%g. g c) (%x. h x x) is (%x. h x x) c, which is h c c.
 #[test]
 fn a_redex_twice_over(rt: HostRuntime) {
     let alloc = rt.alloc();
-    let s = just(&rt, alloc, 'F', got(&rt, at_c(alloc)));
-    let t = got(&rt, of_twice(alloc));
-    let result = applied(&rt, alloc, &s, &t);
-    let wanted = got(&rt, h(alloc, got(&rt, c(alloc)), got(&rt, c(alloc))));
-    assert!(rt; result.is(&wanted));
+    let s = just(&rt, alloc, 'F', "^(0 c)");
+    assert!(rt; becomes(&rt, alloc, &s, "(F %(h 0 0))", "(h c c)") && s.len() == 1);
 }
 
-/// %z. h (t z) z, where t is the variable ?f or %x. h x c.
-fn under_z(alloc: Global) -> Mem<Term> {
-    let inner = var(alloc, 'f', ii(alloc)?, one(alloc, bound(0))?)?;
-    lam(alloc, h(alloc, inner, bound(0))?)
-}
-
-fn under_z_wanted(alloc: Global) -> Mem<Term> {
-    let inner = h(alloc, bound(0), c(alloc)?)?;
-    lam(alloc, h(alloc, inner, bound(0))?)
-}
-
+/// In %z. h (?f z) z the function %x. h x c is put for ?f.
 #[test]
 fn a_function_under_a_binder(rt: HostRuntime) {
     let alloc = rt.alloc();
-    let body = got(&rt, h(alloc, bound(0), got(&rt, c(alloc))));
-    let s = just(&rt, alloc, 'f', got(&rt, lam(alloc, body)));
-    let t = got(&rt, under_z(alloc));
-    let result = applied(&rt, alloc, &s, &t);
-    assert!(rt; result.is(&got(&rt, under_z_wanted(alloc))) && s.len() == 1);
-}
-
-/// %x y. h c y, and %z. ?g z z.
-fn second(alloc: Global) -> Mem<Term> {
-    let h_of = free(alloc, 'h', to_ii(alloc, i(alloc)?)?, one(alloc, c(alloc)?)?)?;
-    lam(alloc, h_of)
-}
-
-fn diagonal(alloc: Global) -> Mem<Term> {
-    let args = two(alloc, bound(0), bound(0))?;
-    lam(alloc, var(alloc, 'g', to_ii(alloc, i(alloc)?)?, args)?)
+    let s = just(&rt, alloc, 'f', "%(h 0 c)");
+    assert!(rt; becomes(&rt, alloc, &s, "%(h (f 0) 0)", "%(h (h 0 c) 0)"));
 }
 
 /// %z. ?g z z with %x. h c for ?g is %z. h c z, which is h c.
 #[test]
 fn a_contraction_after_substitution(rt: HostRuntime) {
     let alloc = rt.alloc();
-    let s = just(&rt, alloc, 'g', got(&rt, second(alloc)));
-    let t = got(&rt, diagonal(alloc));
-    let result = applied(&rt, alloc, &s, &t);
-    let args = got(&rt, one(alloc, got(&rt, c(alloc))));
-    let typ = got(&rt, to_ii(alloc, got(&rt, i(alloc))));
-    assert!(rt; result.is(&got(&rt, free(alloc, 'h', typ, args))));
-}
-
-/// h t ?y, where h takes a type and ?y has it first.
-fn of_two_types(alloc: Global, a: &Typ) -> Mem<Term> {
-    let first = var(alloc, 'y', a.copy()?, Terms::Nil)?;
-    free(
-        alloc,
-        'h',
-        to_ii(alloc, a.copy()?)?,
-        two(alloc, first, y(alloc)?)?,
-    )
+    let s = just(&rt, alloc, 'g', "%(h c)");
+    assert!(rt; becomes(&rt, alloc, &s, "%(g 0 0)", "(h c)"));
 }
 
 /// ?y of a type variable and ?y of type i: the value c is for the second alone, until i is put for the type variable.
 #[test]
 fn one_name_and_two_types(rt: HostRuntime) {
     let alloc = rt.alloc();
-    let a = Typ::Schematic(got(&rt, name(alloc, 'a')));
-    let t = got(&rt, of_two_types(alloc, &a));
-    let none = just(&rt, alloc, 'y', got(&rt, c(alloc)));
-    assert!(rt; !none.can_apply(&t));
+    let t = term(&rt, alloc, "(H Y y)");
+    assert!(rt; !just(&rt, alloc, 'y', "c").can_apply(&t));
     let start = TySubst::new(alloc);
-    let types = unify_types(alloc, &a, &got(&rt, i(alloc)), &start).expect(&rt, "a unifier");
-    let s = with(&rt, alloc, types, 'y', got(&rt, c(alloc)));
-    let result = applied(&rt, alloc, &s, &t);
-    let wanted = got(&rt, h(alloc, got(&rt, c(alloc)), got(&rt, c(alloc))));
-    assert!(rt; result.is(&wanted));
-    let types = got(&rt, retype(alloc, &t, s.types()));
-    assert!(rt; !types.is(&t) && !types.is(&wanted));
+    let types = unify_types(alloc, &typ(&rt, alloc, "a"), &typ(&rt, alloc, "i"), &start);
+    let s = with(&rt, alloc, types.expect(&rt, "a unifier"), 'y', "c");
+    assert!(rt; becomes(&rt, alloc, &s, "(H Y y)", "(h c c)"));
+    assert!(rt; got(&rt, retype(alloc, &t, s.types())).is(&term(&rt, alloc, "(h y y)")));
 }
 
-/// %x. h x ?y for ?f, and then c for ?y.
+/// %x. h x ?y for ?f, and then c for ?y, which h c doesn't fit.
 #[test]
 fn one_after_the_other(rt: HostRuntime) {
     let alloc = rt.alloc();
-    let body = got(&rt, h(alloc, bound(0), got(&rt, y(alloc))));
-    let first = just(&rt, alloc, 'f', got(&rt, lam(alloc, body)));
-    let next = just(&rt, alloc, 'y', got(&rt, c(alloc)));
+    let first = just(&rt, alloc, 'f', "%(h 0 y)");
+    let next = just(&rt, alloc, 'y', "c");
+    assert!(rt; !first.can_compose(&just(&rt, alloc, 'y', "(h c)")));
     assert!(rt; first.can_compose(&next));
     let both = got(&rt, first.compose(alloc, &next));
-    let t = got(&rt, under_z(alloc));
-    let result = applied(&rt, alloc, &both, &t);
-    assert!(rt; both.len() == 2 && result.is(&got(&rt, under_z_wanted(alloc))));
+    assert!(rt; becomes(&rt, alloc, &both, "%(h (f 0) 0)", "%(h (h 0 c) 0)"));
     let copy = got(&rt, both.copy(alloc));
-    assert!(rt; result.is(&applied(&rt, alloc, &copy, &t)));
+    assert!(rt; becomes(&rt, alloc, &copy, "(f y)", "(h c c)") && copy.len() == 2);
 }

@@ -1,6 +1,6 @@
 //! Types put in a type, and types whose parts may be new.
 ghost use Rattle.std.specs.Prelude.{◌≡◌, IfOk, IfErr};
-ghost use Rattle.std.specs.Option.{unwrap_or, option_copied};
+ghost use Rattle.std.specs.Option.{unwrap_or};
 ghost use Rattle.iv_term.specs.declared.typ.Types.{Types};
 ghost use Rattle.iv_term.specs.declared.typ.Typ.TheBlock.{Con};
 ghost use Rattle.iv_term.specs.Typ.{ty_cons};
@@ -64,14 +64,6 @@ pub fn with_args(c: &Text, args: Option<Types>) -> Mem<Option<Typ>>
         None => Ok(None),
         Some(ts) => Ok(Some(Typ::Con(c.copy()?, ts))),
     }
-}
-
-/// A copy of a value, if there is one. Fails where memory runs out.
-pub fn value(found: Option<&Typ>) -> Mem<Option<Typ>>
-    ensures ok { IfOk result (λ r. r ≡ option_copied found.entry) }
-    ensures memory { IfErr result (λ w. w ≡ Memory) }
-{
-    copy_of(found)
 }
 
 /// A list of types where the first or the rest may be new; what is old is shared. Fails where memory runs out.

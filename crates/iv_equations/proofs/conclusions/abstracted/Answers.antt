@@ -1,4 +1,4 @@
-use Rattle.iv_equations.proofs.Past.{exit, past-left, past-right}
+use Rattle.iv_hsub.proofs.Terms.Past.{exit, past-left, past-right}
 use Rattle.iv_equations.proofs.conclusions.abstracted.Goals as goal
 
 pub returns-in_err-left-clause-number : goal.returns-in_err-left-clause-number

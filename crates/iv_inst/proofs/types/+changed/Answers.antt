@@ -12,11 +12,11 @@ changed-returns-in_ok-args-in-Con-clause-ok t c =
 
 pub changed-returns-in-Fixed-clause-ok : goal.changed-returns-in-Fixed-clause-ok
 unfolding map_typ
-changed-returns-in-Fixed-clause-ok t c = rw c.in-Fixed.is (found-put _ _ _ _ c.value.ensures.ok c.get.ensures)
+changed-returns-in-Fixed-clause-ok t c = rw c.in-Fixed.is (found-put _ _ _ _ c.copy_of.ensures.ok c.get.ensures)
 
 pub changed-returns-in-Schematic-clause-ok : goal.changed-returns-in-Schematic-clause-ok
 unfolding map_typ
-changed-returns-in-Schematic-clause-ok t c = rw c.in-Schematic.is (found-put _ _ _ _ c.value-in-Schematic.ensures.ok c.get-in-Schematic.ensures)
+changed-returns-in-Schematic-clause-ok t c = rw c.in-Schematic.is (found-put _ _ _ _ c.copy_of-in-Schematic.ensures.ok c.get-in-Schematic.ensures)
 
 pub changed_all-returns-in-Nil-clause-ok : goal.changed_all-returns-in-Nil-clause-ok
 unfolding map_typs
