@@ -2,11 +2,11 @@
 //!
 //! The program reads documents through a [`Source`] and writes its answers through a [`Sink`]. The traits
 //! carry the contract of each call. Bytes come in order and none is lost or made up, where the source
-//! tells its bytes. The end is told only at the end. A call fails only where the count of faults rose, and
+//! tells its bytes. The end is told only at the end. A call answers [`Failed`] only where the count of faults rose, and
 //! has then moved no byte. Every count stops at 2^64 - 1, and one that stands there counts as risen.
 //!
-//! [`read_all`] and [`write_all`] read to the end and write the whole. They stand on the traits alone, so
-//! what they promise holds at every source and sink.
+//! [`read_all`] and [`write_all`] read to the end and write the whole; a [`ReadError`] says why a source was not read.
+//! They stand on the traits alone, so what they promise holds at every source and sink. The program stands on them.
 //!
 //! [`MemSource`] and [`MemSink`] work in memory, in pieces and with failures as a test wants them, and their
 //! contracts are exact. [`StdSource`] and [`StdSink`] stand over readers and writers of `std`. They are the
