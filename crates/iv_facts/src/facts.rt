@@ -6,7 +6,7 @@ ghost use Rattle.iv_facts.specs.Found.{got, IsStop, begins, behind, many};
 ghost use Rattle.iv_facts.specs.Facts.{sel, more_sels, sels, mark, term_place, goes_term_place, term_places, where_, more_wheres, wheres, named_att, place_with, goes_place, places_with, att_with, more_atts_with, atts_with, inside, opt_atts, fact, a_fact, goes_fact, next_fact, more_facts, facts};
 
 use crate::stop::Stop;
-use crate::tokens::{begins, behind, copied, one, place, skip, stop_at};
+use crate::tokens::{begins, behind, one, place, skip, stop_at};
 use iv_forms::{Att, Fact, Items, Lexeme, Mark, Place, Sel, TermPlace, Where};
 use iv_recogniser::{Class, Sort};
 use iv_shared::Shared;
@@ -100,7 +100,7 @@ fn term_place(tokens: &[Lexeme]) -> Result<(TermPlace, &[Lexeme]), Stop>
         Some(rest) => Ok((TermPlace::Hole, rest)),
         None => {
             let (term, rest) = one(tokens, Sort::Term)?;
-            Ok((TermPlace::Term(copied(&term.token)?), rest))
+            Ok((TermPlace::Term(term.token.copy()?), rest))
         }
     }
 }
@@ -134,8 +134,8 @@ fn where_(tokens: &[Lexeme]) -> Result<(Where, &[Lexeme]), Stop>
     let (_equal, rest) = one(rest, Sort::Only(Class::Equal))?;
     let (term, rest) = one(rest, Sort::Term)?;
     let equation = Where {
-        name: copied(&name.token)?,
-        term: copied(&term.token)?,
+        name: name.token.copy()?,
+        term: term.token.copy()?,
     };
     Ok((equation, rest))
 }
@@ -179,7 +179,7 @@ fn named_att(tokens: &[Lexeme]) -> Result<(Att, &[Lexeme]), Stop>
 {
     let (name, rest) = one(tokens, Sort::Name)?;
     let (mark, rest) = mark(rest);
-    Ok((Att::Name(copied(&name.token)?, mark), rest))
+    Ok((Att::Name(name.token.copy()?, mark), rest))
 }
 
 /// Whether places of `OF` go on.
@@ -356,10 +356,11 @@ fn fact(alloc: Global, left: u32, tokens: &[Lexeme]) -> Result<(Fact, &[Lexeme])
     let (name, rest) = one(tokens, Sort::Name)?;
     let (sels, rest) = sels(alloc, rest)?;
     let (atts, rest) = opt_atts(alloc, left, rest)?;
-    Ok((Fact::Fact(copied(&name.token)?, sels, atts), rest))
+    Ok((Fact::Fact(name.token.copy()?, sels, atts), rest))
 }
 
-/// A fact that stands in no attribute, and the tokens behind it.
+/// A fact that stands in no attribute, and the tokens behind it. Fails with `Syntax` where no fact goes on, with `Deep`
+/// where it has more than 400 levels, at its first token, and with `Memory` where memory runs out.
 #[tactic(auto, using(crate::proofs::Steps::part_stopped, crate::proofs::Steps::part_read), unfolding(crate::specs::Facts::a_fact, crate::specs::FactLevels::limit))]
 pub fn a_fact(alloc: Global, tokens: &[Lexeme]) -> Result<(Fact, &[Lexeme]), Stop>
     ensures ok { IfOk result (λ r. a_fact tokens.now ≡ got r.0 r.1.now) }
@@ -416,7 +417,8 @@ pub(crate) fn more_facts<'a>(
     Ok(rest)
 }
 
-/// Facts, one at least, and the tokens behind them.
+/// Facts, one at least, and the tokens behind them. Fails as [`a_fact`] does at the first that can't be read, with `Deep`
+/// at the first token of that fact.
 #[tactic(auto, using(crate::proofs::Steps::stopped, crate::proofs::Steps::went_on), unfolding(crate::specs::Facts::facts, crate::specs::Found::then_))]
 pub fn facts(alloc: Global, tokens: &[Lexeme]) -> Result<(Items<Fact>, &[Lexeme]), Stop>
     ensures ok { IfOk result (λ r. facts tokens.now ≡ got r.0 r.1.now) }

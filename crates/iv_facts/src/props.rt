@@ -5,7 +5,7 @@ ghost use Rattle.iv_facts.specs.Props.{text_of, more_of, some_of, named_parts, n
 
 use crate::facts::{LIMIT, opt_atts};
 use crate::stop::Stop;
-use crate::tokens::{begins, behind, copied, one, skip, stop_at};
+use crate::tokens::{begins, behind, one, skip, stop_at};
 use iv_forms::{Att, Claim, Group, Items, Label, Lexeme, Prop, VarGroup};
 use iv_lex::Token;
 use iv_recogniser::{Class, Sort};
@@ -20,14 +20,15 @@ pub struct Named {
     pub atts: Items<Att>,
 }
 
-/// The next token copied, where it is one of a set, and those behind it.
+/// The next token copied, where it is one of a set, and those behind it. Fails with `Syntax` where it is none, and with
+/// `Memory` where the count of owners of its text is full.
 #[tactic(auto, using(crate::proofs::Steps::stopped, crate::proofs::Steps::went_on), unfolding(crate::specs::Props::text_of, crate::specs::Found::then_))]
 pub fn text_of(tokens: &[Lexeme], sort: Sort) -> Result<(Token, &[Lexeme]), Stop>
     ensures ok { IfOk result (λ r. text_of sort tokens.now ≡ got r.0 r.1.now) }
     ensures err { IfErr result (λ e. IsStop e (text_of sort tokens.now)) }
 {
     let (token, rest) = one(tokens, sort)?;
-    Ok((copied(&token.token)?, rest))
+    Ok((token.token.copy()?, rest))
 }
 
 /// Further tokens of one set behind those that are there.
@@ -52,7 +53,8 @@ pub(crate) fn more_of<'a>(
     Ok(rest)
 }
 
-/// Tokens of one set, one at least, and those behind them.
+/// Tokens of one set, one at least, and those behind them. Fails with `Syntax` where the first is none, and with `Memory`
+/// where memory runs out.
 #[tactic(auto, using(crate::proofs::Steps::stopped, crate::proofs::Steps::went_on), unfolding(crate::specs::Props::some_of, crate::specs::Found::then_))]
 pub fn some_of(
     alloc: Global,
@@ -80,7 +82,8 @@ fn named_parts(alloc: Global, tokens: &[Lexeme]) -> Result<(Named, &[Lexeme]), S
     Ok((Named { name, atts }, rest))
 }
 
-/// A name and its attributes, as in front of `=`, and the tokens behind them.
+/// A name and its attributes, as in front of `=`, and the tokens behind them. Fails with `Syntax` where none go on,
+/// with `Deep` where they have more than 400 levels, at the name, and with `Memory` where memory runs out.
 #[tactic(auto, using(crate::proofs::Steps::part_stopped, crate::proofs::Steps::part_read), unfolding(crate::specs::Props::named_atts))]
 pub fn named_atts(alloc: Global, tokens: &[Lexeme]) -> Result<(Named, &[Lexeme]), Stop>
     ensures ok { IfOk result (λ r. named_atts tokens.now ≡ got r.0 r.1.now) }
@@ -140,7 +143,8 @@ pub(crate) fn begins_label(tokens: &[Lexeme]) -> bool
                 || begins(behind(tokens), Sort::Only(Class::Left))))
 }
 
-/// A label, or none, and the tokens behind it.
+/// A label, or none, and the tokens behind it. Fails with `Syntax` where one stands ahead and isn't whole, with `Deep` where
+/// it has more than 400 levels, at its first token, and with `Memory` where memory runs out.
 #[tactic(auto, using(crate::proofs::Steps::stopped, crate::proofs::Steps::went_on), unfolding(crate::specs::Props::opt_label, crate::specs::Found::then_))]
 pub fn opt_label(alloc: Global, tokens: &[Lexeme]) -> Result<(Option<Label>, &[Lexeme]), Stop>
     ensures ok { IfOk result (λ r. opt_label tokens.now ≡ got r.0 r.1.now) }
@@ -170,7 +174,7 @@ fn patterns(alloc: Global, tokens: &[Lexeme]) -> Result<(Items<Token>, &[Lexeme]
     }
 }
 
-/// A proposition, and the tokens behind it.
+/// A proposition, and the tokens behind it. Fails with `Syntax` where none goes on, and with `Memory` where memory runs out.
 #[tactic(auto, using(crate::proofs::Steps::stopped, crate::proofs::Steps::went_on), unfolding(crate::specs::Props::prop, crate::specs::Found::then_))]
 pub fn prop(alloc: Global, tokens: &[Lexeme]) -> Result<(Prop, &[Lexeme]), Stop>
     ensures ok { IfOk result (λ r. prop tokens.now ≡ got r.0 r.1.now) }
@@ -181,7 +185,8 @@ pub fn prop(alloc: Global, tokens: &[Lexeme]) -> Result<(Prop, &[Lexeme]), Stop>
     Ok((Prop { term, patterns }, rest))
 }
 
-/// A proposition that may have a label, and the tokens behind it.
+/// A proposition that may have a label, and the tokens behind it. Fails with `Syntax` where none goes on, with `Deep` where
+/// the label has more than 400 levels, at its first token, and with `Memory` where memory runs out.
 #[tactic(auto, using(crate::proofs::Steps::stopped, crate::proofs::Steps::went_on), unfolding(crate::specs::Props::claim, crate::specs::Found::then_))]
 pub fn claim(alloc: Global, tokens: &[Lexeme]) -> Result<(Claim, &[Lexeme]), Stop>
     ensures ok { IfOk result (λ r. claim tokens.now ≡ got r.0 r.1.now) }
@@ -250,7 +255,8 @@ fn more_groups<'a>(
     Ok(rest)
 }
 
-/// Groups of propositions, one at least, and the tokens behind them.
+/// Groups of propositions, one at least, and the tokens behind them. Fails with `Syntax` where none goes on, with `Deep` at
+/// the first token of the first label with more than 400 levels, and with `Memory` where memory runs out.
 #[tactic(auto, using(crate::proofs::Steps::stopped, crate::proofs::Steps::went_on), unfolding(crate::specs::Props::props, crate::specs::Found::then_))]
 pub fn props(alloc: Global, tokens: &[Lexeme]) -> Result<(Items<Group>, &[Lexeme]), Stop>
     ensures ok { IfOk result (λ r. props tokens.now ≡ got r.0 r.1.now) }
@@ -263,7 +269,8 @@ pub fn props(alloc: Global, tokens: &[Lexeme]) -> Result<(Items<Group>, &[Lexeme
     Ok((found, rest))
 }
 
-/// A type behind `::`, or none, and the tokens behind it.
+/// A type behind `::`, or none, and the tokens behind it. Fails with `Syntax` where no type follows `::`, and with `Memory`
+/// where memory runs out.
 #[tactic(auto, using(crate::proofs::Steps::stopped, crate::proofs::Steps::went_on), unfolding(crate::specs::Props::of_type, crate::specs::Found::then_))]
 pub fn of_type(tokens: &[Lexeme]) -> Result<(Option<Token>, &[Lexeme]), Stop>
     ensures ok { IfOk result (λ r. of_type tokens.now ≡ got r.0 r.1.now) }
@@ -311,7 +318,8 @@ fn more_vars<'a>(
     Ok(rest)
 }
 
-/// Names with their types, and the tokens behind them.
+/// Names with their types, and the tokens behind them. Fails with `Syntax` where none go on, and with `Memory` where
+/// memory runs out.
 #[tactic(auto, using(crate::proofs::Steps::stopped, crate::proofs::Steps::went_on), unfolding(crate::specs::Props::vars, crate::specs::Found::then_))]
 pub fn vars(alloc: Global, tokens: &[Lexeme]) -> Result<(Items<VarGroup>, &[Lexeme]), Stop>
     ensures ok { IfOk result (λ r. vars tokens.now ≡ got r.0 r.1.now) }
@@ -324,7 +332,7 @@ pub fn vars(alloc: Global, tokens: &[Lexeme]) -> Result<(Items<VarGroup>, &[Lexe
     Ok((found, rest))
 }
 
-/// Names behind `for`, or none, and the tokens behind them.
+/// Names behind `for`, or none, and the tokens behind them. Fails as [`vars`] does behind `for`.
 #[tactic(auto, using(crate::proofs::Steps::stopped, crate::proofs::Steps::went_on), unfolding(crate::specs::Props::opt_for, crate::specs::Found::then_))]
 pub fn opt_for(alloc: Global, tokens: &[Lexeme]) -> Result<(Items<VarGroup>, &[Lexeme]), Stop>
     ensures ok { IfOk result (λ r. opt_for tokens.now ≡ got r.0 r.1.now) }

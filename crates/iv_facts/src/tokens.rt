@@ -1,13 +1,10 @@
 //! The next tokens.
 ghost use Rattle.std.specs.Prelude.{◌≡◌, true, false, IfOk, IfErr, MatchOption};
-ghost use Rattle.iv_term.specs.declared.want.Want.TheVariants.{Memory};
 ghost use Rattle.iv_facts.specs.Found.{got, IsStop, begins, behind, one, place_of, stop_at};
 
 use crate::stop::Stop;
 use iv_forms::Lexeme;
-use iv_lex::Token;
 use iv_recogniser::Sort;
-use iv_term::Mem;
 use iv_text::Pos;
 
 /// Where the first of some tokens begins.
@@ -51,7 +48,7 @@ pub fn skip(tokens: &[Lexeme], sort: Sort) -> Option<&[Lexeme]>
     }
 }
 
-/// The next token, where it is one of a set, and those behind it.
+/// The next token, where it is one of a set, and those behind it. Fails with `Syntax` where it is none.
 pub fn one(tokens: &[Lexeme], sort: Sort) -> Result<(&Lexeme, &[Lexeme]), Stop>
     ensures ok { IfOk result (λ r. one sort tokens.now ≡ got r.0.now r.1.now) }
     ensures err { IfErr result (λ e. IsStop e (one sort tokens.now)) }
@@ -66,19 +63,6 @@ pub fn one(tokens: &[Lexeme], sort: Sort) -> Result<(&Lexeme, &[Lexeme]), Stop>
             }
         }
     }
-}
-
-/// The same token once more. Fails where a count of owners is full.
-pub fn copied(token: &Token) -> Mem<Token>
-    ensures ok { IfOk result (λ t. t ≡ token.now) }
-    ensures memory { IfErr result (λ w. w ≡ Memory) }
-{
-    Ok(Token {
-        kind: token.kind,
-        text: token.text.copy()?,
-        at: token.at,
-        end: token.end,
-    })
 }
 
 /// The same cause; a part with a limit of its own is too deep where it begins.

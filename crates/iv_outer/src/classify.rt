@@ -180,12 +180,7 @@ pub fn lexeme_of(token: &Token) -> Mem<Lexeme>
     let number = number_in(token.kind, text);
     Ok(Lexeme {
         class,
-        token: Token {
-            kind: token.kind,
-            text: token.text.copy()?,
-            at: token.at,
-            end: token.end,
-        },
+        token: token.copy()?,
         number,
     })
 }

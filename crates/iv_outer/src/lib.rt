@@ -1,7 +1,8 @@
 //! The outer syntax: the pieces of a document, and the command that each is read as.
 //!
-//! [`split`] cuts tokens into pieces, and [`command`] reads one: as the typed command of a form, or as refused at exactly the
-//! place where no form goes on. There is one such command for each piece. The program stands on both.
+//! [`split`] cuts tokens into [`Piece`]s, and [`command`] reads one as a [`Command`]. Its [`Reading`] is what a form says, or
+//! exactly the place where no form goes on. There is one such command for each piece. [`class_of`] is the class of a token;
+//! [`lexeme_of`] puts it beside the token, and [`lexemes`] beside each of many. The program stands on it.
 #![tactic(auto)]
 
 pub mod classify;

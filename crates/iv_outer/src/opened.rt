@@ -33,7 +33,7 @@ fn bracket(class: Class, cartouche: &Token) -> Mem<Lexeme>
 {
     Ok(Lexeme {
         class,
-        token: placed(cartouche, cartouche)?,
+        token: cartouche.copy()?,
         number: 0,
     })
 }
@@ -45,7 +45,7 @@ fn copied(lexeme: &Lexeme) -> Mem<Lexeme>
 {
     Ok(Lexeme {
         class: lexeme.class,
-        token: placed(&lexeme.token, &lexeme.token)?,
+        token: lexeme.token.copy()?,
         number: lexeme.number,
     })
 }

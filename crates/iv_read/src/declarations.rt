@@ -4,7 +4,7 @@ ghost use Rattle.iv_facts.specs.Found.{got, IsStop};
 ghost use Rattle.iv_read.specs.Declarations.{some_nat, infix_parts, binder_parts, priorities, fixity, fix, constant, more_consts, and_consts, axiom_consts, tvar, more_tvars, tvars, judgment_form, equation, more_equations};
 
 use iv_facts::Stop;
-use iv_facts::tokens::{begins, behind, copied, one, skip};
+use iv_facts::tokens::{begins, behind, one, skip};
 use iv_forms::{Constant, Equation, Fixity, Items, Lexeme};
 use iv_lex::Token;
 use iv_recogniser::{Class, Sort};
@@ -31,7 +31,7 @@ fn infix_parts(tokens: &[Lexeme]) -> Result<((Token, u32), &[Lexeme]), Stop>
 {
     let (symbol, tokens) = one(tokens, Sort::Only(Class::Plain))?;
     let (priority, tokens) = one(tokens, Sort::Only(Class::Low))?;
-    Ok(((copied(&symbol.token)?, priority.number), tokens))
+    Ok(((symbol.token.copy()?, priority.number), tokens))
 }
 
 /// A symbol and the priority of a binder.
@@ -42,7 +42,7 @@ fn binder_parts(tokens: &[Lexeme]) -> Result<((Token, u32), &[Lexeme]), Stop>
 {
     let (symbol, tokens) = one(tokens, Sort::Binding)?;
     let (priority, tokens) = one(tokens, Sort::Priority)?;
-    Ok(((copied(&symbol.token)?, priority.number), tokens))
+    Ok(((symbol.token.copy()?, priority.number), tokens))
 }
 
 /// The priorities behind a prefix symbol: of its place, and its own.
@@ -66,7 +66,7 @@ fn fixity(tokens: &[Lexeme]) -> Result<(Fixity, &[Lexeme]), Stop>
 {
     if begins(tokens, Sort::Only(Class::Plain)) {
         let (symbol, tokens) = one(tokens, Sort::Only(Class::Plain))?;
-        return Ok((Fixity::Plain(copied(&symbol.token)?), tokens));
+        return Ok((Fixity::Plain(symbol.token.copy()?), tokens));
     }
     if begins(tokens, Sort::Only(Class::Infix)) {
         let ((symbol, priority), tokens) = infix_parts(behind(tokens))?;
@@ -86,7 +86,7 @@ fn fixity(tokens: &[Lexeme]) -> Result<(Fixity, &[Lexeme]), Stop>
     }
     let (symbol, tokens) = one(tokens, Sort::Only(Class::Prefix))?;
     let ((place, own), tokens) = priorities(tokens)?;
-    Ok((Fixity::Prefix(copied(&symbol.token)?, place, own), tokens))
+    Ok((Fixity::Prefix(symbol.token.copy()?, place, own), tokens))
 }
 
 /// How a constant is written, or nothing.
@@ -116,8 +116,8 @@ pub(crate) fn constant(tokens: &[Lexeme]) -> Result<(Constant, &[Lexeme]), Stop>
     let (typ, tokens) = one(tokens, Sort::Type)?;
     let (fixity, tokens) = fix(tokens)?;
     let constant = Constant {
-        name: copied(&name.token)?,
-        typ: copied(&typ.token)?,
+        name: name.token.copy()?,
+        typ: typ.token.copy()?,
         fixity,
     };
     Ok((constant, tokens))
@@ -188,7 +188,7 @@ fn tvar(tokens: &[Lexeme]) -> Result<(Token, &[Lexeme]), Stop>
     ensures err { IfErr result (λ e. IsStop e (tvar tokens.now)) }
 {
     let (variable, tokens) = one(tokens, Sort::Only(Class::Tvar))?;
-    Ok((copied(&variable.token)?, tokens))
+    Ok((variable.token.copy()?, tokens))
 }
 
 /// Further type variables, each behind a comma.
@@ -260,8 +260,8 @@ pub(crate) fn equation(tokens: &[Lexeme]) -> Result<(Equation, &[Lexeme]), Stop>
     let (_equal, tokens) = one(tokens, Sort::Only(Class::Equal))?;
     let (term, tokens) = one(tokens, Sort::Term)?;
     let equation = Equation {
-        pattern: copied(&pattern.token)?,
-        term: copied(&term.token)?,
+        pattern: pattern.token.copy()?,
+        term: term.token.copy()?,
     };
     Ok((equation, tokens))
 }

@@ -11,7 +11,7 @@ use crate::patterns::{more_patterns, named, opt_nat, pattern};
 use iv_facts::Stop;
 use iv_facts::facts::{LIMIT, facts, goes_fact};
 use iv_facts::props::opt_for;
-use iv_facts::tokens::{begins, behind, copied, one, place, skip, stop_at};
+use iv_facts::tokens::{begins, behind, one, place, skip, stop_at};
 use iv_forms::{Arg, Case, Fact, Items, Lexeme, MethodText, Section, Subject};
 use iv_recogniser::{Class, Sort};
 use iv_shared::Shared;
@@ -95,7 +95,7 @@ fn section(alloc: Global, tokens: &[Lexeme]) -> Result<(Levelled<Section>, &[Lex
     let (facts, rest) = noted_facts(alloc, rest)?;
     let section = Levelled {
         value: Section {
-            name: copied(&name.token)?,
+            name: name.token.copy()?,
             facts: facts.value,
         },
         levels: facts.levels,
@@ -140,7 +140,7 @@ fn subject_term(tokens: &[Lexeme]) -> Result<(Levelled<Subject>, &[Lexeme]), Sto
     let (_open, rest) = one(tokens, Sort::Only(Class::Open))?;
     let (term, rest) = one(rest, Sort::Term)?;
     let (_close, rest) = one(rest, Sort::Only(Class::Close))?;
-    Ok((flat(Subject::Term(copied(&term.token)?)), rest))
+    Ok((flat(Subject::Term(term.token.copy()?)), rest))
 }
 
 /// What `match` looks at, and the tokens behind it.
@@ -176,7 +176,7 @@ fn rule(alloc: Global, tokens: &[Lexeme]) -> Result<(Levelled<MethodText>, &[Lex
     let (word, rest) = one(tokens, Sort::Only(Class::Rule))?;
     let (facts, rest) = noted_facts(alloc, rest)?;
     let rule = Levelled {
-        value: MethodText::Rule(copied(&word.token)?, facts.value),
+        value: MethodText::Rule(word.token.copy()?, facts.value),
         levels: facts.levels,
         deep: facts.deep,
     };
@@ -346,7 +346,7 @@ fn core(
         return Ok((flat(MethodText::Dash), behind(tokens)));
     }
     let (name, rest) = one(tokens, Sort::Name)?;
-    Ok((flat(MethodText::Name(copied(&name.token)?)), rest))
+    Ok((flat(MethodText::Name(name.token.copy()?)), rest))
 }
 
 /// A method that is no call, where so many levels are left, and the tokens behind it.
@@ -381,7 +381,7 @@ fn arg(alloc: Global, left: u32, tokens: &[Lexeme]) -> Result<(Levelled<Arg>, &[
         return Ok((arg, rest));
     }
     let (term, rest) = one(tokens, Sort::Term)?;
-    Ok((flat(Arg::Term(copied(&term.token)?)), rest))
+    Ok((flat(Arg::Term(term.token.copy()?)), rest))
 }
 
 /// The arguments of a call, and the tokens behind them.
@@ -423,7 +423,7 @@ fn call(
     let (args, rest) = args(alloc, left, rest)?;
     let (sections, rest) = sections(alloc, rest)?;
     let call = Levelled {
-        value: MethodText::Call(copied(&name.token)?, args.value, sections.value),
+        value: MethodText::Call(name.token.copy()?, args.value, sections.value),
         levels: args.levels.max(sections.levels),
         deep: first_of(args.deep, sections.deep),
     };

@@ -4,7 +4,7 @@ ghost use Rattle.iv_facts.specs.Found.{got, IsStop, begins, behind, many};
 ghost use Rattle.iv_readmethod.specs.Patterns.{named, opt_nat, cut, bare_pattern, pattern, more_patterns};
 
 use iv_facts::Stop;
-use iv_facts::tokens::{begins, behind, copied, one, skip};
+use iv_facts::tokens::{begins, behind, one, skip};
 use iv_forms::{Cut, Items, Lexeme, Pattern};
 use iv_lex::Token;
 use iv_recogniser::{Class, Sort};
@@ -55,7 +55,7 @@ fn bare_pattern(tokens: &[Lexeme], name: Option<Token>) -> Result<(Pattern, &[Le
 {
     let (term, tokens) = one(tokens, Sort::Term)?;
     let (cut, tokens) = cut(tokens)?;
-    let term = copied(&term.token)?;
+    let term = term.token.copy()?;
     Ok((Pattern { name, term, cut }, tokens))
 }
 
@@ -69,7 +69,7 @@ pub(crate) fn pattern(tokens: &[Lexeme]) -> Result<(Pattern, &[Lexeme]), Stop>
         return bare_pattern(tokens, None);
     }
     let (name, tokens) = one(tokens, Sort::Identifier)?;
-    let name = copied(&name.token)?;
+    let name = name.token.copy()?;
     bare_pattern(behind(tokens), Some(name))
 }
 
