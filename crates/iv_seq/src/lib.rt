@@ -3,6 +3,8 @@
 //! A lazy sequence stands for a finite search: a tree with leaves, and with counted work on the way to them.
 //! A [`pull`](LazySeq::pull) gives the first leaf that is left and does no more counted work than that leaf needs.
 //! [`Listed`], [`Append`], [`OrElse`], [`Take`] and [`Bind`] build sequences, and [`Steps`] counts in contracts.
+//! [`Follow`] is what [`Bind`] leads to from an item; a [`Vouched`] sequence has only leaves that its [`Witness`] admits;
+//! [`gathered`] pulls all leaves. Nothing stands on it yet.
 #![tactic(auto)]
 
 pub mod append;
