@@ -9,9 +9,8 @@ ghost use Rattle.iv_rules.specs.Conditions.{CanImpElim, CanAllElim, CanTrans, Ca
 
 use crate::terms::{is_equation, lhs, predicate_type, rhs, side_type, takes};
 use iv_hsub::harrop::is_quantified;
-pub use iv_hsub::is_prop;
 use iv_hsub::typing::dom;
-use iv_hsub::{has_type, hhf};
+use iv_hsub::{has_type, hhf, is_prop};
 use iv_term::{Mem, Term, Typ, Types};
 use std::alloc::Global;
 

@@ -25,5 +25,5 @@ fn equations_are_taken_apart(rt: HostRuntime) {
     assert!(rt; terms::is_equation(&equation) && !terms::is_equation(&a));
     assert!(rt; terms::side_type(&equation).is_prop());
     assert!(rt; terms::lhs(&equation).is(&a) && terms::rhs(&equation).is(&b));
-    assert!(rt; conditions::is_prop(&equation));
+    assert!(rt; iv_hsub::is_prop(&equation));
 }

@@ -10,7 +10,7 @@ ghost use Rattle.iv_sig.specs.Table.{look};
 use crate::thm::Thm;
 use iv_equations::conditions;
 use iv_equations::terms::is_equation;
-use iv_hsub::is_term;
+use iv_hsub::{is_prop, is_term};
 use iv_inst::{are_values_typed, is_fresh_for};
 use iv_rules::Instance;
 use iv_sig::Sig;
@@ -36,14 +36,14 @@ impl Thm {
     pub fn can_assume(prop: &Term) -> bool
         ensures { IsTrue result ↔ IsProp prop.now }
     {
-        conditions::is_prop(prop)
+        is_prop(prop)
     }
 
     /// Whether the condition of [`imp_intr`](Thm::imp_intr) holds. Takes no memory.
     pub fn can_imp_intr(prop: &Term, _t: &Thm) -> bool
         ensures { IsTrue result ↔ IsProp prop.now }
     {
-        conditions::is_prop(prop)
+        is_prop(prop)
     }
 
     /// Whether the condition of [`imp_elim`](Thm::imp_elim) holds. Takes no memory.

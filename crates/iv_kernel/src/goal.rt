@@ -10,9 +10,8 @@ ghost use Rattle.iv_rules.specs.Sequent.{IsProp};
 ghost use Rattle.iv_kernel.specs.Goal.{goal_prop, premises_of, IsInForm, AreInForm, IsGoal, made_forms};
 
 use crate::thm::Thm;
-use iv_equations::conditions;
-use iv_hsub::hhf;
 use iv_hsub::laws::hhf_is_a_normal_form;
+use iv_hsub::{hhf, is_prop};
 use iv_rules::laws::hypotheses_are_told_apart;
 use iv_term::{Mem, Term};
 use std::alloc::Global;
@@ -64,7 +63,7 @@ impl Goal {
     pub fn can_init(claim: &Term) -> bool
         ensures { IsTrue result ↔ IsProp claim.now }
     {
-        conditions::is_prop(claim)
+        is_prop(claim)
     }
 
     /// A theorem whose proposition is `S1 ==> .. ==> Sn ==> claim`, as a goal with n subgoals, in each of which every `!!`
