@@ -7,3 +7,6 @@ returns-then-is_quantified c =
 
 pub returns-else-is_quantified : goal.returns-else-is_quantified
 returns-else-is_quantified c = for_all_no _ _ _ (quantified _ _ c.is_quantified.ensures.quantified) c.if-is_quantified.false
+
+pub predicate_type-requires : goal.predicate_type-requires
+predicate_type-requires c = (quantified _ _ c.is_quantified.ensures.quantified).0 c.if-is_quantified.true
