@@ -1,32 +1,13 @@
 //! A checker of proof documents.
 //!
 //! `isarvm check` reads a document from standard input and writes a line for each theorem that it proves and
-//! for each command that is refused; `isarvm count` writes one line that counts them. What it promises stands on [`run::run_isar`], which `main` calls over
-//! standard input and output.
+//! for each command that is refused; `isarvm count` writes one line that counts them. What it promises stands on
+//! [`iv_run::run_isar`], which `main` calls over standard input and output.
 #![tactic(auto)]
 
-pub mod commands;
-pub mod law;
-pub mod letters;
-pub mod lines;
-pub mod machine;
-pub mod names;
-pub mod reading;
-pub mod refusal;
-pub mod report;
-#[cfg(test)]
-mod report_tests;
-pub mod run;
-#[cfg(test)]
-mod run_tests;
-pub mod status;
-#[cfg(test)]
-mod tests;
-
-use crate::run::run_isar;
-use crate::status::Status;
 use iv_io::{StdSink, StdSource};
 use iv_kernel::Theorems;
+use iv_run::{Status, run_isar};
 use std::env;
 use std::io::{ErrorKind, writer};
 use std::process::ExitCode;

@@ -13,10 +13,3 @@ pub mod stop;
 pub mod tokens;
 
 pub use stop::Stop;
-
-#[cfg(test)]
-mod facts_tests;
-#[cfg(test)]
-mod props_tests;
-#[cfg(test)]
-mod samples;

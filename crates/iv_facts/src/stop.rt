@@ -1,5 +1,4 @@
-use iv_term::Want;
-use iv_text::Pos;
+use iv_text::{Pos, Want};
 use std::alloc::AllocError;
 
 /// Why nothing was read.

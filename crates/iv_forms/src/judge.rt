@@ -1,11 +1,11 @@
 ghost use Rattle.std.specs.Prelude.{◌≡◌, IfOk, IfErr, map};
-ghost use Rattle.iv_term.specs.declared.want.Want.TheVariants.{Memory};
+ghost use Rattle.iv_text.specs.declared.want.Want.TheVariants.{Memory};
 ghost use Rattle.iv_forms.specs.Readable.{IsVerdict};
 
 use crate::lexeme::Lexeme;
 use iv_recogniser::laws::sets_are_their_members;
 use iv_recogniser::{Class, Part, Verdict, read};
-use iv_term::Mem;
+use iv_text::Mem;
 use std::alloc::Global;
 
 /// The classes of some tokens, in order. Fails where memory runs out.

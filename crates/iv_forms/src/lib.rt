@@ -14,6 +14,3 @@ pub use iv_list::Items;
 pub use lexeme::Lexeme;
 pub use method::{Arg, Case, Cut, MethodText, Pattern, Section, Subject};
 pub use prop::{Claim, Group, Label, Prop, VarGroup};
-
-#[cfg(test)]
-mod tests;

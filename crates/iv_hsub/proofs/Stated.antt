@@ -3,7 +3,9 @@ use Rattle.std.proofs.Common.{◌∙◌, ap, sym, le_of_eq}
 use Rattle.iv_term.specs.declared.typ.Typ.TheBlock.{Nil}
 use Rattle.iv_term.specs.Typ.{fun, ty_cons}
 use Rattle.iv_hsub.specs.Typing.{types_len, join}
-use Rattle.iv_hsub.specs.Laws.{LooseIsBounded, BoundsCanGrow, BoundsCanShrink, ClosedStays, PutsCommute, HsubsCommute, HsubKeepsTypes, HappKeepsTypes, EtaKeepsTypes, RaiseKeepsTypes, AbstractKeepsTypes, AbstractIsUndone, HhfKeepsTypes}
+use Rattle.iv_hsub.specs.Laws.{LooseIsBounded, BoundsCanGrow, BoundsCanShrink, ClosedStays, PutsCommute, HsubsCommute, HsubKeepsTypes, HappKeepsTypes, EtaKeepsTypes, RaiseKeepsTypes, AbstractKeepsTypes, AbstractIsUndone, HhfKeepsTypes, RetypeKeepsTypes, InstKeepsTypes}
+use Rattle.iv_hsub.proofs.Terms.Retype.{retype-has}
+use Rattle.iv_hsub.proofs.Terms.Inst.{inst-term}
 use Rattle.iv_hsub.proofs.Terms.Closed.{raise-closed, loose-term, type_of-front, IsTerm-front, IsTerm-wider}
 use Rattle.iv_hsub.proofs.Terms.Raise.{IsTerm-raise, type_of-raise}
 use Rattle.iv_hsub.proofs.Terms.Eta.{IsTerm-eta}
@@ -56,3 +58,9 @@ bounds_shrink bounds outer c t q p = (IsTerm-front bounds outer t q p.0, sym (ty
 
 pub closed_stays : ClosedStays
 closed_stays n t e = raise-closed n 0 t (le_of_eq e)
+
+pub types_keep : RetypeKeepsTypes
+types_keep f bounds c t p = retype-has f bounds c t p
+
+pub values_keep : InstKeepsTypes
+values_keep F bounds c t k p = let r = inst-term F bounds t k p.0 in (r.0, r.1 ∙ p.1)

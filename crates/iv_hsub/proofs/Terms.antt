@@ -13,3 +13,6 @@ pub mod Hhf
 pub mod Moves
 pub mod Algebra
 pub mod Commute
+pub mod Short
+pub mod Retype
+pub mod Inst

@@ -1,6 +1,6 @@
 -- Abstraction over a free variable (Reference Manual, Pure): variables are told apart by name and type.
 use Rattle.std.specs.Prelude.{ℕ, suc, if◌then◌else◌}
-use Rattle.iv_term.specs.declared.name.Name.{Name}
+use Rattle.iv_text.specs.declared.name.Name.{Name}
 use Rattle.iv_term.specs.declared.typ.Typ.{Typ}
 use Rattle.iv_term.specs.declared.term.Head.{Head}
 use Rattle.iv_term.specs.declared.term.Head.TheVariants.{Free, Bound}

@@ -1,6 +1,6 @@
 -- What the laws say.
-use Rattle.std.specs.Prelude.{◌≡◌, ℕ, suc, ◌≤◌, true}
-use Rattle.iv_term.specs.declared.name.Name.{Name}
+use Rattle.std.specs.Prelude.{◌≡◌, ℕ, suc, ◌≤◌, true, Option}
+use Rattle.iv_text.specs.declared.name.Name.{Name}
 use Rattle.iv_term.specs.declared.typ.Typ.{Typ}
 use Rattle.iv_term.specs.declared.typ.Types.{Types}
 use Rattle.iv_term.specs.declared.term.Head.{Head}
@@ -11,6 +11,8 @@ use Rattle.iv_term.specs.Term.{imp_head}
 use Rattle.iv_hsub.specs.Typing.{types_len, join, result_type, IsTerm, AreArgs, HasType}
 use Rattle.iv_hsub.specs.Index.{loose, raise, eta}
 use Rattle.iv_hsub.specs.Hsub.{put, happ, hsub}
+use Rattle.iv_hsub.specs.Retype.{map_typ, map_typs, retype}
+use Rattle.iv_hsub.specs.Inst.{inst, Vars, Fits}
 use Rattle.iv_hsub.specs.Abstract.{free, abstract_over}
 use Rattle.iv_hsub.specs.Hhf.{all_head, is_imp, is_all, bound_type, one, hhf, IsHhf}
 
@@ -84,3 +86,11 @@ HhfKeepsForm = (bounds : Types) (t : Term) → IsTerm bounds t → IsHhf t → h
 
 abbrev pub HhfIsOnce : Type 0
 HhfIsOnce = (bounds : Types) (t : Term) → IsTerm bounds t → hhf (hhf t) ≡ hhf t
+
+-- types put in a term leave a term, of its type with types put in
+abbrev pub RetypeKeepsTypes : Type 0
+RetypeKeepsTypes = (f : Typ → Typ) (bounds : Types) (c : Typ) (t : Term) → HasType bounds c t → HasType (map_typs f bounds) (map_typ f c) (retype f t)
+
+-- values that fit their variables leave a term, of the same type
+abbrev pub InstKeepsTypes : Type 0
+InstKeepsTypes = (F : Head → Option Term) (bounds : Types) (c : Typ) (t : Term) → Vars (λ h a. Fits (F h) a) t → HasType bounds c t → HasType bounds c (inst F t)

@@ -1,6 +1,9 @@
 pub mod Typing
 pub mod Index
 pub mod Hsub
+pub mod Open
+pub mod Retype
+pub mod Inst
 pub mod Made
 pub mod Bounds
 pub mod Abstract

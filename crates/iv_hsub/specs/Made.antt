@@ -1,9 +1,9 @@
 -- The indices and depths that the definitions make on the way, each step in order (of this project); they could be too great
 -- for the program. A step that makes none counts as 0, so that the list also says how many steps there are.
-use Rattle.std.specs.Prelude.{ℕ, suc, ◌+◌, ◌≤◌, List, [], ◌∷◌, ◌++◌, ◌&&◌, nat_eq, nat_lt, ◌⊎◌, if◌then◌else◌}
+use Rattle.std.specs.Prelude.{ℕ, suc, ◌+◌, ◌≤◌, List, [], ◌∷◌, ◌++◌, Option, Some, None, ◌&&◌, nat_eq, nat_lt, ◌⊎◌, if◌then◌else◌}
 use Rattle.iv_term.specs.declared.typ.Typ.{Typ}
 use Rattle.iv_term.specs.declared.term.Head.{Head}
-use Rattle.iv_term.specs.declared.term.Head.TheVariants.{Bound}
+use Rattle.iv_term.specs.declared.term.Head.TheVariants.{Free, Schematic, Bound}
 use Rattle.iv_term.specs.declared.term.Term.{Term}
 use Rattle.iv_term.specs.declared.term.Terms.{Terms}
 use Rattle.iv_term.specs.declared.term.Term.TheBlock.{Spine, Nil}
@@ -12,6 +12,7 @@ use Rattle.iv_term.specs.Typ.{fun, ty_cons, same_typ}
 use Rattle.iv_term.specs.Term.{lam, tm_cons, is_nil, are_two, antecedent, consequent}
 use Rattle.iv_hsub.specs.Index.{raise}
 use Rattle.iv_hsub.specs.Hsub.{put, put_all, happ}
+use Rattle.iv_hsub.specs.Inst.{inst_all}
 use Rattle.iv_hsub.specs.Hhf.{is_imp, is_all, hhf_all}
 
 -- one of some numbers is 4,294,967,295 or more
@@ -89,3 +90,22 @@ unfoldable mutual
   pub made_hhf_all : Terms → List ℕ
   made_hhf_all Nil = []
   made_hhf_all (tm_cons t ts) = made_hhf t ++ made_hhf_all ts
+
+-- the numbers that putting values for variables makes: only a value at arguments makes any
+abbrev pub made_use : Option Term → Typ → Terms → List ℕ
+made_use None a ts = []
+made_use (Some v) a ts = made_happ a v ts
+
+abbrev pub made_inst_head : (Head → Option Term) → Head → Terms → List ℕ
+made_inst_head values (Free x a) ts = made_use (values (Free x a)) a ts
+made_inst_head values (Schematic x a) ts = made_use (values (Schematic x a)) a ts
+made_inst_head values h ts = []
+
+unfoldable mutual
+  pub made_inst : (Head → Option Term) → Term → List ℕ
+  made_inst values (lam a b) = made_inst values b
+  made_inst values (Spine h ts) = made_inst_all values ts ++ made_inst_head values h (inst_all values ts)
+
+  pub made_inst_all : (Head → Option Term) → Terms → List ℕ
+  made_inst_all values Nil = []
+  made_inst_all values (tm_cons t ts) = made_inst values t ++ made_inst_all values ts

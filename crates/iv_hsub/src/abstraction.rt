@@ -2,13 +2,14 @@
 ghost use Rattle.std.specs.Prelude.{◌≡◌, IfOk, IfErr};
 ghost use Rattle.iv_term.specs.Term.{is_free};
 ghost use Rattle.iv_term.specs.declared.term.Head.TheVariants.{Free};
-ghost use Rattle.iv_term.specs.declared.want.Want.TheVariants.{Memory, Number};
+ghost use Rattle.iv_text.specs.declared.want.Want.TheVariants.{Memory, Number};
 ghost use Rattle.iv_hsub.specs.Abstract.{bind_head, bind, bind_all, abstract_over};
 ghost use Rattle.iv_hsub.specs.Made.{IsPast, made_raise_head, made_raise, made_raise_all};
 
 use crate::contraction::eta;
 use crate::raising::{abs, raise_head, sum};
-use iv_term::{Head, Mem, Name, Term, Terms, Typ};
+use iv_term::{Head, Term, Terms, Typ};
+use iv_text::{Mem, Name};
 use std::alloc::Global;
 
 /// Whether two variables are the same: by name and by type.

@@ -1,10 +1,11 @@
 //! The types of the constants `!!` and `==`.
 ghost use Rattle.std.specs.Prelude.{◌≡◌, IfOk, IfErr};
-ghost use Rattle.iv_term.specs.declared.want.Want.TheVariants.{Memory};
+ghost use Rattle.iv_text.specs.declared.want.Want.TheVariants.{Memory};
 ghost use Rattle.iv_term.specs.Typ.{prop, fun};
 ghost use Rattle.iv_hsub.specs.Hhf.{all_typ};
 
-use iv_term::{Mem, Typ};
+use iv_term::Typ;
+use iv_text::Mem;
 use std::alloc::Global;
 
 /// The type of functions from `a` to propositions.

@@ -1,10 +1,14 @@
 //! Abstractions that are contracted where they can be.
-ghost use Rattle.std.specs.Prelude.{◌≡◌, ◌≤◌, ◌+◌, ◌^◌, min, suc, ℕ, IfOk, IfErr};
-ghost use Rattle.iv_term.specs.declared.want.Want.TheVariants.{Memory};
+ghost use Rattle.std.specs.Prelude.{◌≡◌, ◌≤◌, ◌+◌, ◌^◌, min, suc, ℕ, false, IfOk, IfErr};
+ghost use Rattle.std.specs.Option.{unwrap_or};
+ghost use Rattle.iv_term.specs.Term.{lam};
+ghost use Rattle.iv_text.specs.declared.want.Want.TheVariants.{Memory};
 ghost use Rattle.iv_hsub.specs.Index.{is_bound, occurs, occurs_in, lower_head, lower, lower_all, is_index_0, ends_in_0, front, contracts, contracted, eta};
 
 use crate::raising::abs;
-use iv_term::{Head, Mem, Term, Terms, Typ};
+use iv_shared::Shared;
+use iv_term::{Head, Term, Terms, Typ};
+use iv_text::{Mem, new_or_copy};
 use std::alloc::Global;
 
 /// A depth that no index reaches: depths stop there.
@@ -225,5 +229,29 @@ pub fn eta(alloc: Global, a: &Typ, body: Term) -> Mem<Term>
         contracted(alloc, &body)
     } else {
         abs(alloc, a, body)
+    }
+}
+
+/// An abstraction where the type or the body may be new; the old one can't be contracted, and the new one is where it
+/// can be. Fails where memory runs out.
+pub fn with_body(
+    alloc: Global,
+    a: &Typ,
+    typ: Option<Typ>,
+    body: Option<Term>,
+    old: &Shared<Term>,
+) -> Mem<Option<Term>>
+    ensures ok { contracts old.now ≡ false → IfOk result (λ r. unwrap_or r (lam a.now old.now) ≡ eta (unwrap_or typ a.now) (unwrap_or body old.now)) }
+    ensures memory { IfErr result (λ w. w ≡ Memory) }
+{
+    match typ {
+        None => match body {
+            None => Ok(None),
+            Some(body) => Ok(Some(eta(alloc, a, body)?)),
+        },
+        Some(typ) => {
+            let body = new_or_copy(body, old.get())?;
+            Ok(Some(eta(alloc, &typ, body)?))
+        }
     }
 }

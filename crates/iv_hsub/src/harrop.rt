@@ -7,7 +7,7 @@ ghost use Rattle.iv_term.specs.declared.term.Head.{Head};
 ghost use Rattle.iv_term.specs.declared.term.Term.{Term};
 ghost use Rattle.iv_term.specs.declared.term.Terms.{Terms};
 ghost use Rattle.iv_term.specs.declared.term.Term.TheBlock.{Spine};
-ghost use Rattle.iv_term.specs.declared.want.Want.TheVariants.{Memory, Number};
+ghost use Rattle.iv_text.specs.declared.want.Want.TheVariants.{Memory, Number};
 ghost use Rattle.iv_term.specs.Typ.{prop, fun};
 ghost use Rattle.iv_hsub.specs.Typing.{dom};
 ghost use Rattle.iv_hsub.specs.Index.{index, raise, eta};
@@ -19,7 +19,8 @@ use crate::contraction::{contracts, eta};
 use crate::raising::{raise, raise_all, raise_head};
 use crate::substitution::append;
 use crate::typing::{cod, dom, is_fun};
-use iv_term::{Head, Mem, Term, Terms, Typ};
+use iv_term::{Head, Term, Terms, Typ};
+use iv_text::Mem;
 use std::alloc::Global;
 
 /// Whether a type is that of functions to propositions.

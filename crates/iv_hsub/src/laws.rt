@@ -1,5 +1,5 @@
 //! The laws of terms that compute, each as the contract of a function that does nothing.
-ghost use Rattle.iv_hsub.specs.Laws.{HsubKeepsTypes, HappKeepsTypes, EtaKeepsTypes, RaiseKeepsTypes, LooseIsBounded, BoundsCanGrow, BoundsCanShrink, ClosedStays, PutsCommute, HsubsCommute, AbstractKeepsTypes, AbstractIsUndone, ImpIsSeen, AllIsSeen, HhfKeepsTypes, HhfHasForm, HhfKeepsForm, HhfIsOnce};
+ghost use Rattle.iv_hsub.specs.Laws.{HsubKeepsTypes, HappKeepsTypes, EtaKeepsTypes, RaiseKeepsTypes, LooseIsBounded, BoundsCanGrow, BoundsCanShrink, ClosedStays, PutsCommute, HsubsCommute, AbstractKeepsTypes, AbstractIsUndone, ImpIsSeen, AllIsSeen, HhfKeepsTypes, HhfHasForm, HhfKeepsForm, HhfIsOnce, RetypeKeepsTypes, InstKeepsTypes};
 
 /// Hereditary substitution gives terms: well typed, of the body's type, beta-normal and eta-short. So does what
 /// it is made of: a value at arguments, an abstraction that is contracted, and a term under one more binder.
@@ -44,4 +44,11 @@ pub fn hhf_is_a_normal_form()
     ensures form { HhfHasForm }
     ensures kept { HhfKeepsForm }
     ensures once { HhfIsOnce }
+{}
+
+/// Types put in a term leave a term, of its type with types put in; values that fit their variables leave a term of
+/// the same type. Both hold of any function of variables.
+pub fn putting_gives_terms()
+    ensures types { RetypeKeepsTypes }
+    ensures values { InstKeepsTypes }
 {}

@@ -6,7 +6,8 @@
 //! - Hereditary Harrop form, with each `!!` in front of `==>`: [`hhf`].
 //!
 //! Tests take no memory. Each call is an equation with a definition of `specs/`, and so is what it may lack; what holds of
-//! the definitions is in [`laws`]. Signatures, substitutions, and with them the rules and the kernel stand on this crate.
+//! the definitions is in [`laws`]. Putting types and terms for variables, all at once, is defined here too, for the rules and
+//! for substitutions; the calls stand above. Signatures, substitutions, and the rules stand on this crate.
 #![tactic(auto)]
 
 pub mod abstraction;
@@ -26,6 +27,3 @@ pub use looseness::loose;
 pub use raising::raise;
 pub use substitution::{happ, hsub};
 pub use typing::{has_type, is_prop, is_term, type_of};
-
-#[cfg(test)]
-mod tests;

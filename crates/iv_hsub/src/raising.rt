@@ -1,12 +1,13 @@
 //! Terms under more binders.
 ghost use Rattle.std.specs.Prelude.{◌≡◌, ◌≤◌, ◌+◌, IfOk, IfErr};
 ghost use Rattle.iv_term.specs.Term.{lam};
-ghost use Rattle.iv_term.specs.declared.want.Want.TheVariants.{Memory, Number};
+ghost use Rattle.iv_text.specs.declared.want.Want.TheVariants.{Memory, Number};
 ghost use Rattle.iv_hsub.specs.Index.{raise_head, raise, raise_all};
 ghost use Rattle.iv_hsub.specs.Made.{IsPast, made_raise_head, made_raise, made_raise_all};
 
 use iv_shared::Shared;
-use iv_term::{Head, Mem, Term, Terms, Typ, Want};
+use iv_term::{Head, Term, Terms, Typ};
+use iv_text::{Mem, Want};
 use std::alloc::Global;
 
 /// The sum of two numbers. Fails with `Number` where it is above 4,294,967,295.

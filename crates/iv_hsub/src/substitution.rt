@@ -3,7 +3,7 @@
 ghost use Rattle.std.specs.Prelude.{◌≡◌, IfOk, IfErr, IsTrue, ◌↔◌};
 ghost use Rattle.iv_term.specs.Typ.{fun, ty_cons};
 ghost use Rattle.iv_term.specs.declared.term.Term.TheBlock.{Spine};
-ghost use Rattle.iv_term.specs.declared.want.Want.TheVariants.{Memory, Number};
+ghost use Rattle.iv_text.specs.declared.want.Want.TheVariants.{Memory, Number};
 ghost use Rattle.iv_hsub.specs.Typing.{cod, type_of, IsTerm};
 ghost use Rattle.iv_hsub.specs.Index.{raise};
 ghost use Rattle.iv_hsub.specs.Hsub.{append, put_head, put, put_all, happ, hsub};
@@ -14,7 +14,8 @@ use crate::looseness::loose;
 use crate::raising::{raise, sum};
 use crate::typing::{cod, dom, is_fun};
 use iv_shared::Shared;
-use iv_term::{Head, Mem, Term, Terms, Typ, Types};
+use iv_term::{Head, Term, Terms, Typ, Types};
+use iv_text::Mem;
 use std::alloc::Global;
 
 /// Some terms, and others behind them. Fails where memory runs out.

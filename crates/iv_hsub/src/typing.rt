@@ -2,13 +2,14 @@
 ghost use Rattle.std.specs.Prelude.{◌≡◌, ◌≤◌, ◌<◌, IfOk, IfErr, IsTrue, ◌↔◌, MatchOption};
 ghost use Rattle.iv_term.specs.Typ.{prop, fun};
 ghost use Rattle.iv_term.specs.declared.typ.Typ.TheBlock.{Nil};
-ghost use Rattle.iv_term.specs.declared.want.Want.TheVariants.{Memory};
+ghost use Rattle.iv_text.specs.declared.want.Want.TheVariants.{Memory};
 ghost use Rattle.iv_hsub.specs.Typing.{first_typ, second_typ, dom, cod, types_len, type_at, head_type, result_type, type_of, IsHead, IsTerm, AreArgs, HasType};
 ghost use Rattle.iv_hsub.specs.Index.{contracts};
 ghost use Rattle.iv_hsub.specs.Bounds.{types_in};
 
 use crate::contraction::contracts;
-use iv_term::{Head, Mem, Term, Terms, Typ, Types};
+use iv_term::{Head, Term, Terms, Typ, Types};
+use iv_text::Mem;
 use std::alloc::Global;
 
 /// The types of bound variables: those of a list, and those of binders further in.

@@ -26,6 +26,3 @@ pub use sink::Sink;
 pub use source::Source;
 pub use system::{StdSink, StdSource};
 pub use whole::{ReadError, read_all, write_all};
-
-#[cfg(test)]
-mod tests;

@@ -1,12 +1,12 @@
 ghost use Rattle.std.specs.Prelude.{◌≡◌, ◌↔◌, ◌<◌, ◌≤◌, ℕ, List, [], ◌++◌, length, take, drop, Some, Ok, IfOk, IfErr, OnErr, IsErr, IsTrue};
 ghost use Rattle.iv_io.specs.Counts.{last_count, counted};
 ghost use Rattle.iv_io.specs.Memory.{FailsNext, gives, takes, RefusesNext};
-ghost use Rattle.iv_term.specs.declared.want.Want.TheVariants.{Memory};
+ghost use Rattle.iv_text.specs.declared.want.Want.TheVariants.{Memory};
 
 use crate::failed::Failed;
 use crate::sink::Sink;
 use crate::source::Source;
-use iv_term::Mem;
+use iv_text::Mem;
 use std::alloc::Global;
 use std::marker::Model;
 

@@ -8,7 +8,7 @@ use Rattle.iv_term.specs.Term.{imp, antecedent, consequent, IsImplication}
 use Rattle.iv_term.specs.Hyps.{without}
 use Rattle.iv_hsub.specs.Hhf.{one}
 use Rattle.iv_rules.specs.Laws.{SameIsEqual}
-use Rattle.iv_term.specs.declared.want.Want.{Want}
+use Rattle.iv_text.specs.declared.want.Want.{Want}
 use Rattle.iv_hsub.specs.Made.{IsPast, made_hhf}
 use Rattle.iv_hsub.proofs.Terms.Past.{past-left, past-right}
 use Rattle.iv_kernel.specs.Goal.{goal_prop, premises_of, IsGoalProp, IsInForm, IsGoal, made_forms}

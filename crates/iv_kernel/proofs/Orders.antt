@@ -1,23 +1,22 @@
 -- Subgoals in another order: the same subgoals, and hypotheses that are discharged in any order.
-use Rattle.std.proofs.Common.{◌≡◌, ℕ, zero, suc, ◌⊎◌, inl, inr, List, [], ◌∷◌, ◌++◌, length, ◌<◌, arith, Bool, true, false, ◌||◌, Result, Ok, Err, IfOk, refl, sym, ◌∙◌, ap, subst}
+use Rattle.std.proofs.Common.{◌≡◌, ℕ, zero, suc, ◌⊎◌, inl, inr, List, [], ◌∷◌, ◌++◌, length, ◌<◌, arith, true, false, Result, Ok, Err, IfOk, refl, sym, ◌∙◌, ap, subst}
 use Rattle.std.specs.Prelude.{slice_get, Option, Some, None, if◌then◌else◌}
 use Rattle.std.specs.List.{AllByRecursion}
-use Rattle.iv_term.specs.declared.want.Want.{Want}
+use Rattle.iv_text.specs.declared.want.Want.{Want}
 use Rattle.iv_term.specs.declared.term.Term.{Term}
 use Rattle.iv_term.specs.declared.term.Terms.{Terms}
 use Rattle.iv_term.specs.declared.term.Term.TheBlock.{Nil}
 use Rattle.iv_term.specs.Term.{tm_cons, imp, antecedent, consequent, IsImplication, same_term}
-use Rattle.iv_term.specs.Hyps.{among, snoc, added, union, without, IsDistinctTerms}
+use Rattle.iv_term.specs.Hyps.{among, snoc, added, union, without}
 use Rattle.iv_hsub.specs.Hhf.{one}
 use Rattle.iv_rules.specs.Sequent.{IsProp, AreProps}
 use Rattle.std.proofs.lemmas.List.{append-nil}
 use Rattle.iv_rules.specs.declared.derivation.Derivation.{Derivation}
 use Rattle.iv_rules.specs.declared.derivation.Derivation.TheBlock.{Assume}
 use Rattle.iv_rules.specs.Derivation.{imp_intr, imp_elim}
-use Rattle.iv_rules.specs.Conditions.{CanImpElim}
 use Rattle.iv_rules.specs.Rules.{Proved, axioms_of}
 use Rattle.iv_rules.specs.Laws.{ImpIsProp, SameIsEqual}
-use Rattle.iv_kernel.specs.Goal.{goal_prop, premises_of, IsGoalProp, AreInForm, IsGoal}
+use Rattle.iv_kernel.specs.Goal.{goal_prop, premises_of, IsGoalProp, AreInForm, IsGoal, OpenGoal}
 use Rattle.iv_kernel.specs.Order.{removed, inserted, listed, IsIn, AreIn}
 
 -- premises as a list of terms
@@ -173,10 +172,6 @@ in-without same t (tm_cons u us) ys h =
       | false ↦ λ e. (other t u ys (λ q. let bad : false ≡ true = sym e ∙ (same t u).1 q in cc) h.0, in-without same t us ys h.1)
     ] refl
 
-pub in-none : (hs : Terms) → AreIn hs [] → hs ≡ Nil
-in-none Nil h = refl
-in-none (tm_cons t ts) h = absurd h.0
-
 -- in two lists, where one is in front of the other
 in-left : (x : Term) (xs ys : List Term) → IsIn x xs → IsIn x (xs ++ ys)
 in-left x [] ys h = absurd h
@@ -196,8 +191,18 @@ pub in-shifted : (x t : Term) (xs ys : List Term) → IsIn x (t ∷ (xs ++ ys)) 
 in-shifted x t xs ys (inl e) = in-right x xs (t ∷ ys) (inl e)
 in-shifted x t xs ys (inr h) = in-middle x t xs ys h
 
-pub in-last : (xs : List Term) (p : Term) → IsIn p (xs ++ (p ∷ []))
-in-last xs p = in-right p xs (p ∷ []) (inl refl)
+-- hypotheses are in their own list, and in any that ends with it
+in-more : (t : Term) (hs : Terms) (ys : List Term) → AreIn hs ys → AreIn hs (t ∷ ys)
+in-more t Nil ys h = tt
+in-more t (tm_cons u us) ys h = (inr h.0, in-more t us ys h.1)
+
+in-itself : (hs : Terms) → AreIn hs (listed hs)
+unfolding listed
+in-itself Nil = tt
+in-itself (tm_cons t ts) = (inl refl, in-more t ts (listed ts) (in-itself ts))
+
+pub in-behind : (hs : Terms) (xs : List Term) → AreIn hs (xs ++ listed hs)
+in-behind hs xs = in-all hs (listed hs) (xs ++ listed hs) (λ z h. in-right z xs (listed hs) h) (in-itself hs)
 
 -- each subgoal is in the new order
 in-each : (xs ys : List Term) → ((z : Term) → IsIn z xs → IsIn z ys) → AllByRecursion (λ z. IsIn z ys) xs
@@ -218,68 +223,6 @@ unfolding listed AreProps
 listed-props Nil h = tt
 listed-props (tm_cons t ts) h = (h.0, listed-props ts h.1)
 
--- a union with no hypotheses in front
-glued : Terms → Terms → Terms
-glued Nil us = us
-glued (tm_cons t ts) us = tm_cons t (glued ts us)
-
-glued-snoc : (ts : Terms) (u : Term) (us : Terms) → glued (snoc ts u) us ≡ glued ts (tm_cons u us)
-unfolding glued snoc
-glued-snoc Nil u us = refl
-glued-snoc (tm_cons t ts) u us = ap (λ z. tm_cons t z) (glued-snoc ts u us)
-
-glued-nil : (ts : Terms) → glued ts Nil ≡ ts
-unfolding glued
-glued-nil Nil = refl
-glued-nil (tm_cons t ts) = ap (λ z. tm_cons t z) (glued-nil ts)
-
-abbrev Apart : Terms → Terms → Type 0
-Apart Nil ts = Unit {0}
-Apart (tm_cons u us) ts = (among u ts ≡ false) × Apart us ts
-
-or-neither : (a b : Bool) → (a || b) ≡ false → (a ≡ false) × (b ≡ false)
-or-neither true b h = absurd (let bad : true ≡ false = h in cc)
-or-neither false b h = (refl, h)
-
-or-none : (a b : Bool) → a ≡ false → b ≡ false → (a || b) ≡ false
-or-none a b p q = rw (p, q)
-
-differs-back : SameIsEqual → (t u : Term) (b : Bool) → same_term u t ≡ b → same_term t u ≡ false → b ≡ false
-differs-back same t u false e h = refl
-differs-back same t u true e h = absurd (let g : same_term t u ≡ true = (same t u).1 (sym ((same u t).0 e)) in let bad : false ≡ true = sym h ∙ g in cc)
-
-among-snoc : (x : Term) (ts : Terms) (t : Term) → among x ts ≡ false → same_term x t ≡ false → among x (snoc ts t) ≡ false
-unfolding among snoc
-among-snoc x Nil t h d = or-none (same_term x t) false d refl
-among-snoc x (tm_cons u us) t h d =
-    let n = or-neither (same_term x u) (among x us) h in or-none (same_term x u) (among x (snoc us t)) n.0 (among-snoc x us t n.1 d)
-
-apart-snoc : SameIsEqual → (us ts : Terms) (u : Term) → Apart us ts → among u us ≡ false → Apart us (snoc ts u)
-unfolding among
-apart-snoc same Nil ts u h k = tt
-apart-snoc same (tm_cons v us) ts u h k =
-    let n = or-neither (same_term u v) (among u us) k in
-    (among-snoc v ts u h.0 (differs-back same u v (same_term v u) refl n.0), apart-snoc same us ts u h.1 n.1)
-
-added-new : (t : Term) (hs : Terms) → among t hs ≡ false → added hs t ≡ snoc hs t
-unfolding added
-added-new t hs e = ap (λ b. if b then hs else snoc hs t) e
-
-union-new : SameIsEqual → (us ts : Terms) → Apart us ts → IsDistinctTerms us → union ts us ≡ glued ts us
-unfolding union glued IsDistinctTerms
-union-new same Nil ts a d = sym (glued-nil ts)
-union-new same (tm_cons u us) ts a d =
-    ap (λ z. union z us) (added-new u ts a.0) ∙ union-new same us (snoc ts u) (apart-snoc same us ts u a.1 d.0) d.1 ∙ glued-snoc ts u us
-
-apart-none : (us : Terms) → Apart us Nil
-unfolding among
-apart-none Nil = tt
-apart-none (tm_cons u us) = (refl, apart-none us)
-
-pub union-none : SameIsEqual → (us : Terms) → IsDistinctTerms us → union Nil us ≡ us
-unfolding glued
-union-none same us d = union-new same us Nil (apart-none us) d
-
 -- what is known of a call's theorem
 pub part-is : {X : Type 0} (r : Result Proved Want) (f : Proved → X) (t : Proved) (x : X) → IfOk r (λ z. z ≡ t) → f t ≡ x → IfOk r (λ z. f z ≡ x)
 part-is (Ok z) f t x h e = ap f h ∙ e
@@ -288,6 +231,10 @@ part-is (Err w) f t x h e = tt
 pub hyps-in : (r : Result Proved Want) (hs : Terms) (ts : List Term) → IfOk r (λ z. z.hyps ≡ hs) → AreIn hs ts → IfOk r (λ z. AreIn z.hyps ts)
 hyps-in (Ok z) hs ts h k = subst (λ x. AreIn x ts) (sym h) k
 hyps-in (Err w) hs ts h k = tt
+
+pub goal-in : (r : Result OpenGoal Want) (t : Proved) (ys : List Term) → IfOk r (λ g. g.thm ≡ t) → AreIn t.hyps ys → IfOk r (λ g. AreIn g.thm.hyps ys)
+goal-in (Ok g) t ys h k = subst (λ x. AreIn x.hyps ys) (sym h) k
+goal-in (Err w) t ys h k = tt
 
 pub axioms-are : (r : Result Proved Want) (d : Derivation) (xs : List (List ℕ × Term)) → IfOk r (λ z. z.derivation ≡ d) → axioms_of d ≡ xs → IfOk r (λ z. axioms_of z.derivation ≡ xs)
 axioms-are (Ok z) d xs h e = ap axioms_of h ∙ e
@@ -322,14 +269,6 @@ pub intr-axioms : (d e : Derivation) (a : Term) → d ≡ imp_intr a e → axiom
 unfolding axioms_of
 intr-axioms d e a h = rw h refl
 
-pub assume-axioms : (d : Derivation) (a : Term) → d ≡ Assume a → axioms_of d ≡ []
-unfolding axioms_of
-assume-axioms d a h = rw h refl
-
-pub major-axioms : (e f : Derivation) → axioms_of e ≡ [] → axioms_of (imp_elim e f) ≡ axioms_of f
-unfolding axioms_of
-major-axioms e f k = rw k refl
-
 -- discharging, step by step
 pub none-discharged : (p : Term) → p ≡ goal_prop (listed Nil) p
 unfolding goal_prop listed
@@ -358,10 +297,6 @@ props-first t ts h = h.0
 pub props-rest : (t : Term) (ts : Terms) → AreProps (tm_cons t ts) → AreProps ts
 unfolding AreProps
 props-rest t ts h = h.1
-
--- an implication and its premise, under other names
-pub step-concludes : (p w v q : Term) → p ≡ imp w q → w ≡ v → CanImpElim p v
-step-concludes p w v q e f = e ∙ (λ i. imp (f i) (ap consequent (sym e) i))
 
 -- a proposition made from subgoals is that of a goal with them
 pub goal-is : (ss : List Term) (c p : Term) → p ≡ goal_prop ss c → IsGoalProp (length ss) p c

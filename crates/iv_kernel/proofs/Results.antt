@@ -1,15 +1,14 @@
 -- What a call's last answer says of its caller's.
 use Rattle.std.proofs.Common.{◌≡◌, Result, Ok, Err, IfOk, IfErr, sym, ◌∙◌}
-use Rattle.iv_term.specs.declared.want.Want.{Want}
-use Rattle.iv_term.specs.declared.want.Want.TheVariants.{Memory, Number}
+use Rattle.iv_text.specs.declared.want.Want.{Want}
+use Rattle.iv_text.specs.declared.want.Want.TheVariants.{Memory, Number}
 use Rattle.iv_term.specs.declared.typ.Typ.TheBlock.{Nil as no_types}
 use Rattle.iv_term.specs.declared.term.Term.{Term}
 use Rattle.iv_term.specs.declared.term.Terms.{Terms}
 use Rattle.iv_term.specs.declared.term.Term.TheBlock.{Nil}
 use Rattle.iv_term.specs.Term.{tm_cons}
-use Rattle.iv_put.specs.Subst.{IsOpenTerm}
+use Rattle.iv_hsub.specs.Open.{IsOpenTerm, AreOpenTerms}
 use Rattle.iv_rules.specs.Sequent.{IsProp, AreProps}
-use Rattle.iv_inst.specs.Open.{AreOpenTerms}
 
 -- want of memory is no number
 pub no-number : {T : Type 0} (r : Result T Want) (P : Type 0) → IfErr r (λ w. w ≡ Memory) → IfErr r (λ w. w ≡ Number → P)

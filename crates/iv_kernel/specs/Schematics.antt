@@ -1,7 +1,7 @@
 -- The schematic variables of terms, each with its type, and which terms have none (of this project).
 use Rattle.std.specs.Prelude.{◌≡◌, Bool, true, false, ◌||◌, List, [], ◌∷◌, ◌++◌}
 use Rattle.std.specs.List.{AllByRecursion}
-use Rattle.iv_term.specs.declared.name.Name.{Name}
+use Rattle.iv_text.specs.declared.name.Name.{Name}
 use Rattle.iv_term.specs.declared.typ.Typ.{Typ}
 use Rattle.iv_term.specs.declared.typ.Types.{Types}
 use Rattle.iv_term.specs.declared.typ.Typ.TheBlock.{Con, Fixed, Schematic as Variable, Nil as no_types}

@@ -1,6 +1,6 @@
 //! The conditions of the rules, each tested by the call of the rule's name with `can_` in front.
 ghost use Rattle.std.specs.Prelude.{◌≡◌, true, ◌++◌, IfOk, IfErr, IsTrue, ◌↔◌, is_some};
-ghost use Rattle.iv_term.specs.declared.want.Want.TheVariants.{Number};
+ghost use Rattle.iv_text.specs.declared.want.Want.TheVariants.{Number};
 ghost use Rattle.iv_hsub.specs.Made.{IsPast, made_hhf};
 ghost use Rattle.iv_rules.specs.Equality.{IsEquation};
 ghost use Rattle.iv_rules.specs.Sequent.{IsClosed, IsProp};
@@ -8,20 +8,21 @@ ghost use Rattle.iv_rules.specs.Conditions.{CanImpElim, CanAllIntr, CanAllElim, 
 ghost use Rattle.iv_sig.specs.Table.{look};
 
 use crate::thm::Thm;
-use iv_equations::conditions;
-use iv_equations::terms::is_equation;
+use iv_conclusions::eigenvariable::any_has_named;
+use iv_conclusions::terms::is_equation;
+use iv_conclusions::{are_values_typed, conditions, is_fresh_for};
 use iv_hsub::{is_prop, is_term};
-use iv_inst::{are_values_typed, is_fresh_for};
 use iv_rules::Instance;
 use iv_sig::Sig;
-use iv_term::{Mem, Name, Term, Text, Typ, Types};
+use iv_term::{Term, Typ, Types};
+use iv_text::{Mem, Name, Text};
 use std::alloc::Global;
 
-/// Whether a variable of this name and type is free in no hypothesis.
-fn is_fresh(name: &Name, typ: &Typ, t: &Thm) -> bool
-    ensures { IsTrue result ↔ CanAllIntr name.now typ.now t.now.hyps }
+/// Whether no free variable of this name, of whatever type, stands in a hypothesis.
+fn is_fresh(name: &Name, t: &Thm) -> bool
+    ensures { IsTrue result ↔ CanAllIntr name.now t.now.hyps }
 {
-    !t.hyps().any_has_free(name, typ)
+    !any_has_named(t.hyps(), name)
 }
 
 impl Thm {
@@ -53,11 +54,12 @@ impl Thm {
         conditions::is_implication_from(major.prop(), minor.prop())
     }
 
-    /// Whether the condition of [`all_intr`](Thm::all_intr) holds. Takes no memory.
-    pub fn can_all_intr(name: &Name, typ: &Typ, t: &Thm) -> bool
-        ensures { IsTrue result ↔ CanAllIntr name.now typ.now t.now.hyps }
+    /// Whether the condition of [`all_intr`](Thm::all_intr) holds: no free variable of this name, of whatever type, stands in
+    /// a hypothesis. Takes no memory.
+    pub fn can_all_intr(name: &Name, _typ: &Typ, t: &Thm) -> bool
+        ensures { IsTrue result ↔ CanAllIntr name.now t.now.hyps }
     {
-        is_fresh(name, typ, t)
+        is_fresh(name, t)
     }
 
     /// Whether the condition of [`all_elim`](Thm::all_elim) holds. Takes no memory.
@@ -95,11 +97,12 @@ impl Thm {
         conditions::are_congruent(f.prop(), x.prop())
     }
 
-    /// Whether the condition of [`abs`](Thm::abs) holds. Takes no memory.
-    pub fn can_abs(name: &Name, typ: &Typ, t: &Thm) -> bool
-        ensures { IsTrue result ↔ CanAbs name.now typ.now t.now.hyps t.now.prop }
+    /// Whether the condition of [`abs`](Thm::abs) holds: it is an equation, and no free variable of this name, of whatever
+    /// type, stands in a hypothesis. Takes no memory.
+    pub fn can_abs(name: &Name, _typ: &Typ, t: &Thm) -> bool
+        ensures { IsTrue result ↔ CanAbs name.now t.now.hyps t.now.prop }
     {
-        is_equation(t.prop()) && is_fresh(name, typ, t)
+        is_equation(t.prop()) && is_fresh(name, t)
     }
 
     /// Whether the condition of [`eq_intr`](Thm::eq_intr) holds. Takes no memory.

@@ -1,12 +1,13 @@
 //! Derivations by one rule more. Each call shares its premises, and fails where memory runs out.
 ghost use Rattle.std.specs.Prelude.{◌≡◌, IfOk, IfErr};
-ghost use Rattle.iv_term.specs.declared.want.Want.TheVariants.{Memory};
+ghost use Rattle.iv_text.specs.declared.want.Want.TheVariants.{Memory};
 ghost use Rattle.iv_rules.specs.declared.derivation.Derivation.TheBlock.{Axiom, Assume, Refl};
 ghost use Rattle.iv_rules.specs.Derivation.{imp_intr, imp_elim, all_intr, all_elim, eq_sym, eq_trans, comb, abs, eq_intr, eq_elim, conv, inst};
 
 use iv_rules::{Derivation, Instance};
 use iv_shared::Shared;
-use iv_term::{Mem, Name, Term, Text, Typ};
+use iv_term::{Term, Typ};
+use iv_text::{Mem, Name, Text};
 use std::alloc::Global;
 
 /// An axiom by its name.

@@ -1,5 +1,5 @@
 ghost use Rattle.std.specs.Prelude.{◌≡◌, ℕ, ◌-◌, ◌≤◌, ◌<◌, [], ◌∷◌, length, slice_get, Some, IfOk, IfErr, IsTrue, ◌↔◌};
-ghost use Rattle.iv_term.specs.declared.want.Want.TheVariants.{Memory, Number};
+ghost use Rattle.iv_text.specs.declared.want.Want.TheVariants.{Memory, Number};
 ghost use Rattle.iv_term.specs.declared.term.Term.TheBlock.{Nil};
 ghost use Rattle.iv_term.specs.Term.{imp};
 ghost use Rattle.iv_hsub.specs.Hhf.{hhf};
@@ -13,7 +13,8 @@ use crate::thm::Thm;
 use iv_hsub::laws::hhf_is_a_normal_form;
 use iv_hsub::{hhf, is_prop};
 use iv_rules::laws::hypotheses_are_told_apart;
-use iv_term::{Mem, Term};
+use iv_term::Term;
+use iv_text::Mem;
 use std::alloc::Global;
 use std::marker::Model;
 

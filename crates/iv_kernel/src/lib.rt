@@ -30,6 +30,3 @@ pub mod thm;
 pub use goal::Goal;
 pub use theorems::{NamedThm, Theorems};
 pub use thm::Thm;
-
-#[cfg(test)]
-mod tests;

@@ -1,9 +1,9 @@
 //! A goal with its subgoals in another order.
-ghost use Rattle.std.specs.Prelude.{◌≡◌, ◌-◌, ◌≤◌, ◌⊎◌, List, [], ◌∷◌, ◌++◌, length, slice_get, Some, IfOk, IfErr};
+ghost use Rattle.std.specs.Prelude.{◌≡◌, ◌-◌, ◌≤◌, ◌⊎◌, List, ◌++◌, length, slice_get, Some, IfOk, IfErr};
 ghost use Rattle.std.specs.List.{AllByRecursion};
-ghost use Rattle.iv_term.specs.declared.want.Want.TheVariants.{Memory};
+ghost use Rattle.iv_text.specs.declared.want.Want.TheVariants.{Memory};
 ghost use Rattle.iv_term.specs.declared.term.Term.{Term as Tree};
-ghost use Rattle.iv_rules.specs.Sequent.{IsProp, AreProps};
+ghost use Rattle.iv_rules.specs.Sequent.{AreProps};
 ghost use Rattle.iv_rules.specs.Rules.{axioms_of};
 ghost use Rattle.iv_kernel.specs.Goal.{goal_prop, premises_of, IsGoalProp};
 ghost use Rattle.iv_kernel.specs.Order.{removed, inserted, listed, IsIn, AreIn};
@@ -11,7 +11,8 @@ ghost use Rattle.iv_kernel.specs.Order.{removed, inserted, listed, IsIn, AreIn};
 use crate::goal::Goal;
 use crate::thm::Thm;
 use iv_rules::laws::{hypotheses_are_told_apart, parts_of_propositions};
-use iv_term::{Mem, Term, Terms};
+use iv_term::{Term, Terms};
+use iv_text::Mem;
 use std::alloc::Global;
 
 /// The premises of a proposition, of which there are `count`.
@@ -109,29 +110,25 @@ fn discharged(alloc: Global, props: &Terms, thm: &Thm) -> Mem<Thm>
     }
 }
 
-/// A theorem `S1 ==> .. ==> Sn ==> C` with its premises in another order, where none is left out. The theorem itself is
-/// assumed first, and taken out last, so that its own hypotheses stay.
+/// A theorem `S1 ==> .. ==> Sn ==> C` with its premises in another order, where none is left out. A hypothesis that is a
+/// premise is discharged with it.
 fn reordered(alloc: Global, thm: &Thm, count: u32, claim: &Term, order: &Terms) -> Mem<Thm>
     requires goal { IsGoalProp count thm.now.prop claim.now }
     requires props { AreProps order.now }
-    requires each { AllByRecursion (λ t. IsIn t (listed order.now ++ thm.now.prop ∷ [])) (premises_of count thm.now.prop) }
+    requires each { AllByRecursion (λ t. IsIn t (listed order.now ++ listed thm.now.hyps)) (premises_of count thm.now.prop) }
     ensures prop { IfOk result (λ r. r.prop ≡ goal_prop (listed order.now) claim.now) }
-    ensures hyps { IfOk result (λ r. r.hyps ≡ thm.now.hyps) }
+    ensures hyps { IfOk result (λ r. AreIn r.hyps (listed thm.now.hyps)) }
     ensures axioms { IfOk result (λ r. axioms_of r.derivation ≡ axioms_of thm.now.derivation) }
     ensures memory { IfErr result (λ w. w ≡ Memory) }
 {
-    hypotheses_are_told_apart();
-    let whole = thm.prop();
-    let assumed = Thm::assume(alloc, whole)?;
-    let open = opened(alloc, assumed, count, claim)?;
-    let closed = discharged(alloc, order, &open)?;
-    let step = Thm::imp_intr(alloc, whole, &closed)?;
-    let _distinct = thm.hyps();
-    Thm::imp_elim(alloc, &step, thm)
+    let whole = thm.copy()?;
+    let open = opened(alloc, whole, count, claim)?;
+    discharged(alloc, order, &open)
 }
 
 impl Goal {
-    /// The goal with the subgoal at place `from` moved to place `to`, counted from 1. Fails where memory runs out.
+    /// The goal with the subgoal at place `from` moved to place `to`, counted from 1. Its hypotheses are among those of this
+    /// one. Fails where memory runs out.
     pub fn rotate(&self, alloc: Global, from: u32, to: u32) -> Mem<Goal>
         requires first { 1 ≤ from }
         requires last { from ≤ length self.now.subgoals }
@@ -140,7 +137,7 @@ impl Goal {
         ensures subgoals { (x : Tree) → slice_get self.now.subgoals (from - 1) ≡ Some x
             → IfOk result (λ g. g.subgoals ≡ inserted (to - 1) x (removed (from - 1) self.now.subgoals)) }
         ensures claim { IfOk result (λ g. g.claim ≡ self.now.claim) }
-        ensures hyps { IfOk result (λ g. g.thm.hyps ≡ self.now.thm.hyps) }
+        ensures among { IfOk result (λ g. AreIn g.thm.hyps (listed self.now.thm.hyps)) }
         ensures axioms { IfOk result (λ g. axioms_of g.thm.derivation ≡ axioms_of self.now.thm.derivation) }
         ensures memory { IfErr result (λ w. w ≡ Memory) }
     {

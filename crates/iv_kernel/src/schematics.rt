@@ -4,7 +4,8 @@ ghost use Rattle.std.specs.List.{AllByRecursion};
 ghost use Rattle.iv_kernel.specs.Schematics.{is_open, are_open, is_schematic_head, is_schematic, are_schematic, variable_of, variables_of, variables_of_all, HasOneType, AreOneTyped};
 
 use crate::thm::Thm;
-use iv_term::{Head, Name, Term, Terms, Typ, Types};
+use iv_term::{Head, Term, Terms, Typ, Types};
+use iv_text::Name;
 
 /// Whether a schematic type variable stands in a type.
 #[cycle(is_open)]

@@ -1,9 +1,9 @@
 ghost use Rattle.std.specs.Prelude.{◌≡◌, IfOk, IfErr};
-ghost use Rattle.iv_term.specs.declared.want.Want.TheVariants.{Memory};
+ghost use Rattle.iv_text.specs.declared.want.Want.TheVariants.{Memory};
 
 use crate::thm::Thm;
 use iv_list::Items;
-use iv_term::{Copied, Mem, Text};
+use iv_text::{Copied, Mem, Text};
 
 /// A theorem with its name, where it has one.
 #[derive(Drop)]

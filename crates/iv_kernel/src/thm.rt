@@ -1,32 +1,29 @@
 //! Theorems, and the fifteen rules that make them.
 ghost use Rattle.std.specs.Prelude.{◌≡◌, true, ◌++◌, IfOk, IfErr, Some, is_some};
 ghost use Rattle.iv_term.specs.Typ.{prop, fun};
-ghost use Rattle.iv_term.specs.Term.{imp, antecedent, consequent};
-ghost use Rattle.iv_term.specs.Hyps.{union, without, IsDistinctTerms};
-ghost use Rattle.iv_term.specs.declared.want.Want.TheVariants.{Memory, Number};
+ghost use Rattle.iv_term.specs.Hyps.{IsDistinctTerms};
+ghost use Rattle.iv_text.specs.declared.want.Want.TheVariants.{Memory, Number};
 ghost use Rattle.iv_term.specs.declared.typ.Typ.TheBlock.{Nil as no_types};
-ghost use Rattle.iv_term.specs.declared.term.Term.TheBlock.{Nil};
-ghost use Rattle.iv_hsub.specs.Typing.{cod, type_of};
-ghost use Rattle.iv_hsub.specs.Abstract.{abstract_over};
+ghost use Rattle.iv_hsub.specs.Typing.{type_of};
 ghost use Rattle.iv_hsub.specs.Hhf.{one};
 ghost use Rattle.iv_hsub.specs.Made.{IsPast, made_raise, made_happ};
 ghost use Rattle.iv_rules.specs.declared.derivation.Derivation.TheBlock.{Axiom, Assume, Refl};
 ghost use Rattle.iv_rules.specs.Derivation.{imp_intr, imp_elim, all_intr, all_elim, eq_sym, eq_trans, comb, abs, eq_intr, eq_elim, conv, inst};
-ghost use Rattle.iv_rules.specs.Equality.{eq, lhs, rhs, side_type, IsEquation, all, predicate, app};
+ghost use Rattle.iv_rules.specs.Equality.{lhs, rhs, side_type, IsEquation, predicate};
 ghost use Rattle.iv_rules.specs.Sequent.{IsClosed, IsProp, AreProps};
 ghost use Rattle.iv_rules.specs.Conditions.{CanImpElim, CanAllIntr, CanAllElim, CanTrans, CanComb, CanAbs, CanEqIntr, CanEqElim, CanConv, CanInst};
-ghost use Rattle.iv_rules.specs.Rules.{Shows, Kept};
-ghost use Rattle.iv_rules.specs.Instance.{instanced, instanced_hyps};
-ghost use Rattle.iv_inst.specs.Made.{made_instanced, made_instanced_all};
+ghost use Rattle.iv_rules.specs.Conclusions.{by_axiom, by_assume, by_imp_intr, by_imp_elim, by_all_intr, by_all_elim, by_refl, by_sym, by_trans, by_comb, by_abs, by_eq_intr, by_eq_elim, by_conv, by_inst};
+ghost use Rattle.iv_rules.specs.Rules.{Shows, Kept, said};
+ghost use Rattle.iv_conclusions.specs.Made.{made_instanced, made_instanced_all};
 ghost use Rattle.iv_sig.specs.Table.{look};
 
 use crate::derivations;
-use iv_equations::conclusions;
-use iv_inst::{are_keys_apart, instanced, instanced_hyps};
+use iv_conclusions::{are_keys_apart, conclusions, instanced, instanced_hyps};
 use iv_rules::{Derivation, Instance, steps};
 use iv_shared::Shared;
 use iv_sig::Sig;
-use iv_term::{Mem, Name, Term, Terms, Text, Typ};
+use iv_term::{Term, Terms, Typ};
+use iv_text::{Mem, Name, Text};
 use std::alloc::Global;
 use std::marker::Model;
 
@@ -103,7 +100,6 @@ impl Thm {
         ensures hyps { IfOk result (λ t. t.hyps ≡ hyps) }
         ensures prop { IfOk result (λ t. t.prop ≡ prop) }
         ensures derivation { IfOk result (λ t. t.derivation ≡ rule) }
-        ensures kept { IfOk result (λ t. Kept t) }
         ensures memory { IfErr result (λ w. w ≡ Memory) }
     {
         let derivation = Shared::new(alloc, rule)?;
@@ -125,10 +121,9 @@ impl Thm {
     /// for an axiom A that is declared by this name. Fails where memory runs out.
     pub fn axiom(alloc: Global, sig: &Sig, name: &Text) -> Mem<Thm>
         requires { is_some (look sig.now.axioms name.now) ≡ true }
-        ensures hyps { IfOk result (λ r. r.hyps ≡ Nil) }
+        ensures hyps { IfOk result (λ r. r.hyps ≡ (by_axiom r.prop).hyps) }
         ensures prop { IfOk result (λ r. look sig.now.axioms name.now ≡ Some r.prop) }
         ensures derivation { IfOk result (λ r. r.derivation ≡ Axiom name.now r.prop) }
-        ensures kept { IfOk result (λ r. Kept r) }
         ensures memory { IfErr result (λ w. w ≡ Memory) }
     {
         steps::propositions_are_shown();
@@ -151,10 +146,9 @@ impl Thm {
     /// for a proposition A. Fails where memory runs out.
     pub fn assume(alloc: Global, prop: &Term) -> Mem<Thm>
         requires { IsProp prop.now }
-        ensures hyps { IfOk result (λ r. r.hyps ≡ one prop.now) }
-        ensures prop { IfOk result (λ r. r.prop ≡ prop.now) }
+        ensures hyps { IfOk result (λ r. r.hyps ≡ (by_assume prop.now).hyps) }
+        ensures prop { IfOk result (λ r. r.prop ≡ (by_assume prop.now).prop) }
         ensures derivation { IfOk result (λ r. r.derivation ≡ Assume prop.now) }
-        ensures kept { IfOk result (λ r. Kept r) }
         ensures memory { IfErr result (λ w. w ≡ Memory) }
     {
         steps::propositions_are_shown();
@@ -173,10 +167,9 @@ impl Thm {
     /// for a proposition A, which is taken out of the hypotheses. Fails where memory runs out.
     pub fn imp_intr(alloc: Global, prop: &Term, t: &Thm) -> Mem<Thm>
         requires { IsProp prop.now }
-        ensures hyps { IfOk result (λ r. r.hyps ≡ without prop.now t.now.hyps) }
-        ensures prop { IfOk result (λ r. r.prop ≡ imp prop.now t.now.prop) }
+        ensures hyps { IfOk result (λ r. r.hyps ≡ (by_imp_intr prop.now (said t.now)).hyps) }
+        ensures prop { IfOk result (λ r. r.prop ≡ (by_imp_intr prop.now (said t.now)).prop) }
         ensures derivation { IfOk result (λ r. r.derivation ≡ imp_intr prop.now t.now.derivation) }
-        ensures kept { IfOk result (λ r. Kept r) }
         ensures memory { IfErr result (λ w. w ≡ Memory) }
     {
         steps::propositions_are_shown();
@@ -195,10 +188,9 @@ impl Thm {
     /// Fails where memory runs out.
     pub fn imp_elim(alloc: Global, major: &Thm, minor: &Thm) -> Mem<Thm>
         requires { CanImpElim major.now.prop minor.now.prop }
-        ensures hyps { IfOk result (λ r. r.hyps ≡ union major.now.hyps minor.now.hyps) }
-        ensures prop { IfOk result (λ r. r.prop ≡ consequent major.now.prop) }
+        ensures hyps { IfOk result (λ r. r.hyps ≡ (by_imp_elim (said major.now) (said minor.now)).hyps) }
+        ensures prop { IfOk result (λ r. r.prop ≡ (by_imp_elim (said major.now) (said minor.now)).prop) }
         ensures derivation { IfOk result (λ r. r.derivation ≡ imp_elim major.now.derivation minor.now.derivation) }
-        ensures kept { IfOk result (λ r. Kept r) }
         ensures memory { IfErr result (λ w. w ≡ Memory) }
     {
         steps::propositions_are_shown();
@@ -214,14 +206,14 @@ impl Thm {
     /// H |- !!x. B
     /// ```
     ///
-    /// for a variable x of this name and type that isn't free in H. Fails where memory runs out; with `Number` only where
-    /// an index or a depth that is made on the way is 4,294,967,295 or more.
+    /// for the variable x of this name and type, where no free variable of this name, of whatever type, stands in H; one of
+    /// the same name and another type stays as it is in B. Fails where memory runs out; with `Number` only where an index or a
+    /// depth that is made on the way is 4,294,967,295 or more.
     pub fn all_intr(alloc: Global, name: &Name, typ: &Typ, t: &Thm) -> Mem<Thm>
-        requires { CanAllIntr name.now typ.now t.now.hyps }
-        ensures hyps { IfOk result (λ r. r.hyps ≡ t.now.hyps) }
-        ensures prop { IfOk result (λ r. r.prop ≡ all typ.now (abstract_over name.now typ.now t.now.prop)) }
+        requires { CanAllIntr name.now t.now.hyps }
+        ensures hyps { IfOk result (λ r. r.hyps ≡ (by_all_intr name.now typ.now (said t.now)).hyps) }
+        ensures prop { IfOk result (λ r. r.prop ≡ (by_all_intr name.now typ.now (said t.now)).prop) }
         ensures derivation { IfOk result (λ r. r.derivation ≡ all_intr name.now typ.now t.now.derivation) }
-        ensures kept { IfOk result (λ r. Kept r) }
         ensures number { IfErr result (λ w. w ≡ Number → IsPast (made_raise 1 0 t.now.prop)) }
     {
         steps::quantified_are_shown();
@@ -241,10 +233,9 @@ impl Thm {
     /// a depth that is made on the way is 4,294,967,295 or more.
     pub fn all_elim(alloc: Global, value: &Term, t: &Thm) -> Mem<Thm>
         requires { CanAllElim value.now t.now.prop }
-        ensures hyps { IfOk result (λ r. r.hyps ≡ t.now.hyps) }
-        ensures prop { IfOk result (λ r. r.prop ≡ app (fun (type_of no_types value.now) prop) (predicate t.now.prop) value.now) }
+        ensures hyps { IfOk result (λ r. r.hyps ≡ (by_all_elim value.now (said t.now)).hyps) }
+        ensures prop { IfOk result (λ r. r.prop ≡ (by_all_elim value.now (said t.now)).prop) }
         ensures derivation { IfOk result (λ r. r.derivation ≡ all_elim value.now t.now.derivation) }
-        ensures kept { IfOk result (λ r. Kept r) }
         ensures number { IfErr result (λ w. w ≡ Number
             → IsPast (made_happ (fun (type_of no_types value.now) prop) (predicate t.now.prop) (one value.now))) }
     {
@@ -264,10 +255,9 @@ impl Thm {
     /// for a term v without loose indices. Fails where memory runs out.
     pub fn refl(alloc: Global, value: &Term) -> Mem<Thm>
         requires { IsClosed value.now }
-        ensures hyps { IfOk result (λ r. r.hyps ≡ Nil) }
-        ensures prop { IfOk result (λ r. r.prop ≡ eq (type_of no_types value.now) value.now value.now) }
+        ensures hyps { IfOk result (λ r. r.hyps ≡ (by_refl value.now).hyps) }
+        ensures prop { IfOk result (λ r. r.prop ≡ (by_refl value.now).prop) }
         ensures derivation { IfOk result (λ r. r.derivation ≡ Refl value.now) }
-        ensures kept { IfOk result (λ r. Kept r) }
         ensures memory { IfErr result (λ w. w ≡ Memory) }
     {
         steps::equations_are_shown();
@@ -285,10 +275,9 @@ impl Thm {
     /// Fails where memory runs out.
     pub fn sym(alloc: Global, t: &Thm) -> Mem<Thm>
         requires { IsEquation t.now.prop }
-        ensures hyps { IfOk result (λ r. r.hyps ≡ t.now.hyps) }
-        ensures prop { IfOk result (λ r. r.prop ≡ eq (side_type t.now.prop) (rhs t.now.prop) (lhs t.now.prop)) }
+        ensures hyps { IfOk result (λ r. r.hyps ≡ (by_sym (said t.now)).hyps) }
+        ensures prop { IfOk result (λ r. r.prop ≡ (by_sym (said t.now)).prop) }
         ensures derivation { IfOk result (λ r. r.derivation ≡ eq_sym t.now.derivation) }
-        ensures kept { IfOk result (λ r. Kept r) }
         ensures memory { IfErr result (λ w. w ≡ Memory) }
     {
         steps::equations_are_shown();
@@ -307,10 +296,9 @@ impl Thm {
     /// Fails where memory runs out.
     pub fn trans(alloc: Global, a: &Thm, b: &Thm) -> Mem<Thm>
         requires { CanTrans a.now.prop b.now.prop }
-        ensures hyps { IfOk result (λ r. r.hyps ≡ union a.now.hyps b.now.hyps) }
-        ensures prop { IfOk result (λ r. r.prop ≡ eq (side_type a.now.prop) (lhs a.now.prop) (rhs b.now.prop)) }
+        ensures hyps { IfOk result (λ r. r.hyps ≡ (by_trans (said a.now) (said b.now)).hyps) }
+        ensures prop { IfOk result (λ r. r.prop ≡ (by_trans (said a.now) (said b.now)).prop) }
         ensures derivation { IfOk result (λ r. r.derivation ≡ eq_trans a.now.derivation b.now.derivation) }
-        ensures kept { IfOk result (λ r. Kept r) }
         ensures memory { IfErr result (λ w. w ≡ Memory) }
     {
         steps::equations_are_shown();
@@ -330,11 +318,9 @@ impl Thm {
     /// that is made on the way is 4,294,967,295 or more.
     pub fn comb(alloc: Global, f: &Thm, x: &Thm) -> Mem<Thm>
         requires { CanComb f.now.prop x.now.prop }
-        ensures hyps { IfOk result (λ r. r.hyps ≡ union f.now.hyps x.now.hyps) }
-        ensures prop { let c = side_type f.now.prop in
-            IfOk result (λ r. r.prop ≡ eq (cod c) (app c (lhs f.now.prop) (lhs x.now.prop)) (app c (rhs f.now.prop) (rhs x.now.prop))) }
+        ensures hyps { IfOk result (λ r. r.hyps ≡ (by_comb (said f.now) (said x.now)).hyps) }
+        ensures prop { IfOk result (λ r. r.prop ≡ (by_comb (said f.now) (said x.now)).prop) }
         ensures derivation { IfOk result (λ r. r.derivation ≡ comb f.now.derivation x.now.derivation) }
-        ensures kept { IfOk result (λ r. Kept r) }
         ensures number { let c = side_type f.now.prop in IfErr result (λ w. w ≡ Number
             → IsPast (made_happ c (lhs f.now.prop) (one (lhs x.now.prop)) ++ made_happ c (rhs f.now.prop) (one (rhs x.now.prop)))) }
     {
@@ -351,15 +337,14 @@ impl Thm {
     /// H |- (%x. s) == (%x. t)
     /// ```
     ///
-    /// for a variable x of this name and type that isn't free in H. Fails where memory runs out; with `Number` only where
-    /// an index or a depth that is made on the way is 4,294,967,295 or more.
+    /// for the variable x of this name and type, where no free variable of this name, of whatever type, stands in H; one of
+    /// the same name and another type stays as it is in s and t. Fails where memory runs out; with `Number` only where an index or
+    /// a depth that is made on the way is 4,294,967,295 or more.
     pub fn abs(alloc: Global, name: &Name, typ: &Typ, t: &Thm) -> Mem<Thm>
-        requires { CanAbs name.now typ.now t.now.hyps t.now.prop }
-        ensures hyps { IfOk result (λ r. r.hyps ≡ t.now.hyps) }
-        ensures prop { IfOk result (λ r. r.prop ≡ eq (fun typ.now (side_type t.now.prop))
-            (abstract_over name.now typ.now (lhs t.now.prop)) (abstract_over name.now typ.now (rhs t.now.prop))) }
+        requires { CanAbs name.now t.now.hyps t.now.prop }
+        ensures hyps { IfOk result (λ r. r.hyps ≡ (by_abs name.now typ.now (said t.now)).hyps) }
+        ensures prop { IfOk result (λ r. r.prop ≡ (by_abs name.now typ.now (said t.now)).prop) }
         ensures derivation { IfOk result (λ r. r.derivation ≡ abs name.now typ.now t.now.derivation) }
-        ensures kept { IfOk result (λ r. Kept r) }
         ensures number { IfErr result (λ w. w ≡ Number
             → IsPast (made_raise 1 0 (lhs t.now.prop) ++ made_raise 1 0 (rhs t.now.prop))) }
     {
@@ -379,10 +364,9 @@ impl Thm {
     /// Fails where memory runs out.
     pub fn eq_intr(alloc: Global, a: &Thm, b: &Thm) -> Mem<Thm>
         requires { CanEqIntr a.now.prop b.now.prop }
-        ensures hyps { IfOk result (λ r. r.hyps ≡ union a.now.hyps b.now.hyps) }
-        ensures prop { IfOk result (λ r. r.prop ≡ eq prop (antecedent a.now.prop) (consequent a.now.prop)) }
+        ensures hyps { IfOk result (λ r. r.hyps ≡ (by_eq_intr (said a.now) (said b.now)).hyps) }
+        ensures prop { IfOk result (λ r. r.prop ≡ (by_eq_intr (said a.now) (said b.now)).prop) }
         ensures derivation { IfOk result (λ r. r.derivation ≡ eq_intr a.now.derivation b.now.derivation) }
-        ensures kept { IfOk result (λ r. Kept r) }
         ensures memory { IfErr result (λ w. w ≡ Memory) }
     {
         steps::equations_are_shown();
@@ -401,10 +385,9 @@ impl Thm {
     /// Fails where memory runs out.
     pub fn eq_elim(alloc: Global, eq: &Thm, t: &Thm) -> Mem<Thm>
         requires { CanEqElim eq.now.prop t.now.prop }
-        ensures hyps { IfOk result (λ r. r.hyps ≡ union eq.now.hyps t.now.hyps) }
-        ensures prop { IfOk result (λ r. r.prop ≡ rhs eq.now.prop) }
+        ensures hyps { IfOk result (λ r. r.hyps ≡ (by_eq_elim (said eq.now) (said t.now)).hyps) }
+        ensures prop { IfOk result (λ r. r.prop ≡ (by_eq_elim (said eq.now) (said t.now)).prop) }
         ensures derivation { IfOk result (λ r. r.derivation ≡ eq_elim eq.now.derivation t.now.derivation) }
-        ensures kept { IfOk result (λ r. Kept r) }
         ensures memory { IfErr result (λ w. w ≡ Memory) }
     {
         steps::equations_are_shown();
@@ -423,10 +406,9 @@ impl Thm {
     /// for a proposition B that has one form with A, with each `!!` in front of `==>`. Fails where memory runs out.
     pub fn conv(alloc: Global, prop: &Term, t: &Thm) -> Mem<Thm>
         requires { CanConv prop.now t.now.prop }
-        ensures hyps { IfOk result (λ r. r.hyps ≡ t.now.hyps) }
-        ensures prop { IfOk result (λ r. r.prop ≡ prop.now) }
+        ensures hyps { IfOk result (λ r. r.hyps ≡ (by_conv prop.now (said t.now)).hyps) }
+        ensures prop { IfOk result (λ r. r.prop ≡ (by_conv prop.now (said t.now)).prop) }
         ensures derivation { IfOk result (λ r. r.derivation ≡ conv prop.now t.now.derivation) }
-        ensures kept { IfOk result (λ r. Kept r) }
         ensures memory { IfErr result (λ w. w ≡ Memory) }
     {
         steps::propositions_are_shown();
@@ -447,10 +429,9 @@ impl Thm {
     /// with `Number` only where an index or a depth that is made on the way is 4,294,967,295 or more.
     pub fn inst(alloc: Global, s: &Instance, t: &Thm) -> Mem<Thm>
         requires { CanInst s.now t.now.hyps }
-        ensures hyps { IfOk result (λ r. r.hyps ≡ instanced_hyps s.now t.now.hyps) }
-        ensures prop { IfOk result (λ r. r.prop ≡ instanced s.now t.now.prop) }
+        ensures hyps { IfOk result (λ r. r.hyps ≡ (by_inst s.now (said t.now)).hyps) }
+        ensures prop { IfOk result (λ r. r.prop ≡ (by_inst s.now (said t.now)).prop) }
         ensures derivation { IfOk result (λ r. r.derivation ≡ inst s.now t.now.derivation) }
-        ensures kept { IfOk result (λ r. Kept r) }
         ensures number { IfErr result (λ w. w ≡ Number → IsPast (made_instanced_all s.now t.now.hyps ++ made_instanced s.now t.now.prop)) }
     {
         steps::instances_are_shown();

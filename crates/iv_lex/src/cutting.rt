@@ -1,5 +1,5 @@
 ghost use Rattle.std.specs.Prelude.{◌≡◌, ◌≤◌, ◌<◌, ◌^◌, ◌++◌, length, IfOk, IfErr, OnOk};
-ghost use Rattle.iv_term.specs.declared.want.Want.TheVariants.{Memory};
+ghost use Rattle.iv_text.specs.declared.want.Want.TheVariants.{Memory};
 ghost use Rattle.std.specs.List.{list_any};
 ghost use Rattle.iv_lex.specs.Cut.{IsCut};
 ghost use Rattle.iv_lex.specs.Letter.{is_char, letters_of};
@@ -9,8 +9,7 @@ ghost use Rattle.iv_lex.specs.Token.{all_chars, count_at, first_at, kind_at, kin
 use crate::letters::{Letter, first_items, letters, rest_from};
 use crate::spellings::text_of;
 use crate::starts::{Start, start_at};
-use iv_term::{Mem, Text};
-use iv_text::Pos;
+use iv_text::{Mem, Pos, Text};
 use std::alloc::Global;
 
 /// What a token is.

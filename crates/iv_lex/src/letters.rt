@@ -1,9 +1,8 @@
 ghost use Rattle.std.specs.Prelude.{◌≡◌, ◌≤◌, ◌<◌, ◌+◌, ◌^◌, length, drop, take, IfOk, IfErr};
-ghost use Rattle.iv_term.specs.declared.want.Want.TheVariants.{Memory};
+ghost use Rattle.iv_text.specs.declared.want.Want.TheVariants.{Memory};
 ghost use Rattle.iv_lex.specs.Letter.{letter_at, letter_more, letter_value, letters_of};
 
-use iv_term::Mem;
-use iv_text::Pos;
+use iv_text::{Mem, Pos};
 use std::alloc::Global;
 
 /// A letter of a document: a character of UTF-8, or a byte that is part of none.

@@ -15,6 +15,3 @@ pub mod spellings;
 pub mod starts;
 
 pub use cutting::{Kind, Token, tokens};
-
-#[cfg(test)]
-mod tests;

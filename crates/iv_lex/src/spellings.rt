@@ -1,5 +1,5 @@
 ghost use Rattle.std.specs.Prelude.{◌≡◌, ◌||◌, ◌++◌, ◌∷◌, [], if◌then◌else◌, IfOk, OnOk, IfErr, MatchOption, false, unwrap_or};
-ghost use Rattle.iv_term.specs.declared.want.Want.TheVariants.{Memory};
+ghost use Rattle.iv_text.specs.declared.want.Want.TheVariants.{Memory};
 ghost use Rattle.iv_lex.specs.Form.{first_is, spells};
 ghost use Rattle.iv_lex.specs.Letter.{chars_of, is_char};
 ghost use Rattle.iv_lex.specs.Spelling.{ending, inner, is_escapable, is_escape, printed_symbol, text_of, unescaped};
@@ -8,7 +8,7 @@ use crate::cutting::Kind;
 use crate::forms::{spells, starts_with};
 use crate::letters::{Letter, first_items, rest_from};
 use crate::nests::Nest;
-use iv_term::Mem;
+use iv_text::Mem;
 use std::alloc::Global;
 
 /// The characters of some letters. Fails where memory runs out.

@@ -4,10 +4,9 @@ use Rattle.std.proofs.lemmas.List.{append_assoc, append-nil, drop_more, drop_all
 use Rattle.std.proofs.lemmas.Option.{slice_get_within, get_or_from_slice_get}
 use Rattle.std.specs.List.{IsDistinct, AllByRecursion}
 use Rattle.std.specs.Map.{keys_of}
-use Rattle.iv_term.specs.declared.name.Name.{Name}
-use Rattle.iv_term.specs.Typ.{same_name}
-use Rattle.iv_term.proofs.Laws.Same.{same_name-true, same_name-same}
-use Rattle.iv_term.specs.Key.{same_name-equiv}
+use Rattle.iv_text.specs.declared.name.Name.{Name}
+use Rattle.iv_text.specs.Name.{same_name, same_name-equiv}
+use Rattle.iv_text.proofs.Same.{same_name-true, same_name-same}
 use Rattle.iv_map.specs.NameMap.{Entries, look}
 
 -- the entry at an index, and those behind it

@@ -1,8 +1,8 @@
 -- Maps by name: entries in order (of this project).
 use Rattle.std.specs.Prelude.{List, Option}
 use Rattle.std.specs.Map.{lookup}
-use Rattle.iv_term.specs.declared.name.Name.{Name}
-use Rattle.iv_term.specs.Typ.{same_name}
+use Rattle.iv_text.specs.declared.name.Name.{Name}
+use Rattle.iv_text.specs.Name.{same_name}
 
 abbrev pub Entries : Type 0 → Type 0
 Entries V = List (Name × V)

@@ -7,6 +7,3 @@
 pub mod name_map;
 
 pub use name_map::NameMap;
-
-#[cfg(test)]
-mod tests;

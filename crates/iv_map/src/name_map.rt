@@ -2,12 +2,12 @@ ghost use Rattle.std.specs.Prelude.{◌≡◌, ◌<◌, [], ◌∷◌, ◌++◌,
 ghost use Rattle.std.specs.List.{IsDistinct};
 ghost use Rattle.std.specs.Map.{keys_of};
 ghost use Rattle.std.specs.Option.{option_copied};
-ghost use Rattle.iv_term.specs.Typ.{same_name};
-ghost use Rattle.iv_term.specs.declared.want.Want.TheVariants.{Memory};
+ghost use Rattle.iv_text.specs.Name.{same_name};
+ghost use Rattle.iv_text.specs.declared.want.Want.TheVariants.{Memory};
 ghost use Rattle.iv_map.specs.NameMap.{look};
 
 use indexmap::IndexMap;
-use iv_term::{Copied, Mem, Name};
+use iv_text::{Copied, Mem, Name};
 use std::alloc::Global;
 use std::marker::Model;
 
@@ -25,7 +25,7 @@ impl<V: Drop> Drop for NameMap<V> {
 
 impl<V> Model for NameMap<V> {
     ghost use Rattle.std.specs.Coded.{coded×, coded_list};
-    ghost use Rattle.iv_term.specs.contracts.name.Name as a_name;
+    ghost use Rattle.iv_text.specs.contracts.name.Name as a_name;
     ghost use Rattle.iv_map.specs.NameMap.{Entries};
 
     ghost Value = { Entries V };

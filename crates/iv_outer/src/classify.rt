@@ -1,6 +1,6 @@
 ghost use Rattle.std.specs.Prelude.{◌≡◌, ◌-◌, ◌<◌, ◌≤◌, ◌^◌, IfOk, IfErr, length, map};
 ghost use Rattle.std.specs.List.{prefix_len};
-ghost use Rattle.iv_term.specs.declared.want.Want.TheVariants.{Memory};
+ghost use Rattle.iv_text.specs.declared.want.Want.TheVariants.{Memory};
 ghost use Rattle.iv_outer.specs.Words.{plain};
 ghost use Rattle.iv_outer.specs.Classify.{behind_dot, class_of, is_symbolic, lexeme_of, looked_up, number_class, number_in, number_of, other_string_class, spelled, string_class, symbol_class};
 
@@ -8,7 +8,7 @@ use crate::words::{Word, delimiters, signs, words};
 use iv_forms::Lexeme;
 use iv_lex::{Kind, Token};
 use iv_recogniser::Class;
-use iv_term::Mem;
+use iv_text::Mem;
 use std::alloc::Global;
 
 /// Whether a text has just these ASCII characters.

@@ -18,12 +18,3 @@ pub use classify::{class_of, lexeme_of, lexemes};
 pub use pieces::{Piece, split};
 pub use reader::command;
 pub use reading::{Command, Reading};
-
-#[cfg(test)]
-mod level_tests;
-#[cfg(test)]
-mod places;
-#[cfg(test)]
-mod samples;
-#[cfg(test)]
-mod tests;

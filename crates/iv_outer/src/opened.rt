@@ -1,6 +1,6 @@
 ghost use Rattle.std.specs.Prelude.{◌≡◌, ◌<◌, ◌^◌, ◌++◌, ◌∷◌, [], IfOk, IfErr, OnOk, length, if◌then◌else◌, map};
 ghost use Rattle.iv_lex.specs.Token.{tokens_of};
-ghost use Rattle.iv_term.specs.declared.want.Want.TheVariants.{Memory};
+ghost use Rattle.iv_text.specs.declared.want.Want.TheVariants.{Memory};
 ghost use Rattle.iv_recogniser.specs.declared.class.Class.TheVariants.{Other};
 ghost use Rattle.iv_recogniser.specs.declared.class.Class.TheVariants as class;
 ghost use Rattle.iv_outer.specs.Classify.{lexeme_of};
@@ -10,7 +10,7 @@ use crate::classify::{lexeme_of, lexemes};
 use iv_forms::Lexeme;
 use iv_lex::{Token, tokens};
 use iv_recogniser::Class;
-use iv_term::Mem;
+use iv_text::Mem;
 use std::alloc::Global;
 
 /// The same token, at the place of the cartouche that it stands in. Fails where memory runs out.

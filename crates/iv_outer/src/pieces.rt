@@ -1,12 +1,12 @@
 ghost use Rattle.std.specs.Prelude.{◌≡◌, ◌<◌, ◌≤◌, ◌^◌, IfOk, IfErr, length};
-ghost use Rattle.iv_term.specs.declared.want.Want.TheVariants.{Memory};
+ghost use Rattle.iv_text.specs.declared.want.Want.TheVariants.{Memory};
 ghost use Rattle.iv_outer.specs.Piece.{begins, is_command, pieces_of, plain_more};
 
 use crate::classify::class_of;
 use iv_lex::Token;
 use iv_lex::letters::rest_from;
 use iv_recogniser::Class;
-use iv_term::Mem;
+use iv_text::Mem;
 use std::alloc::Global;
 
 /// A run of tokens that is read as one command.

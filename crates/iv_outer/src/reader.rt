@@ -1,5 +1,5 @@
 ghost use Rattle.std.specs.Prelude.{◌≡◌, ◌<◌, IfOk, IfErr, length};
-ghost use Rattle.iv_term.specs.declared.want.Want.TheVariants.{Memory};
+ghost use Rattle.iv_text.specs.declared.want.Want.TheVariants.{Memory};
 ghost use Rattle.iv_forms.specs.Readable.{IsReadable};
 ghost use Rattle.iv_outer.specs.declared.reading.Command.{Command};
 ghost use Rattle.iv_outer.specs.Command.{IsCommand, IsPlaced, IsReading, word_of};
@@ -17,7 +17,7 @@ use iv_lex::Token;
 use iv_read::form;
 use iv_read::laws::{deep_parts_are_placed, forms_are_read};
 use iv_recogniser::Verdict;
-use iv_term::{Mem, Text, Want};
+use iv_text::{Mem, Text, Want};
 use std::alloc::Global;
 
 /// The command word of a piece, or `?` where it begins with none. Fails where memory runs out.

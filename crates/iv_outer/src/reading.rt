@@ -1,6 +1,5 @@
 use iv_forms::Body;
-use iv_term::Text;
-use iv_text::Pos;
+use iv_text::{Pos, Text};
 
 /// What a piece is read as.
 #[derive(Drop)]

@@ -1,13 +1,10 @@
-pub mod Retype
 pub mod RetypeUse
-pub mod Inst
 pub mod InstUse
 pub mod Vars
 pub mod Composed
 pub mod Entries
 pub mod Tests
 pub mod Values
-pub mod Short
 pub mod Code
 pub mod Loops
 pub mod Apart

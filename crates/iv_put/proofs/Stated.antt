@@ -4,24 +4,17 @@ use Rattle.iv_term.specs.declared.typ.Types.{Types}
 use Rattle.iv_term.specs.declared.term.Term.{Term}
 use Rattle.iv_hsub.specs.Typing.{type_of, IsTerm, HasType}
 use Rattle.iv_subst.specs.TySubst.{TyMap, put_typ, put_typs, at}
-use Rattle.iv_put.specs.Retype.{retype}
+use Rattle.iv_hsub.specs.Retype.{retype}
 use Rattle.iv_put.specs.Subst.{by_map, applied}
-use Rattle.iv_put.specs.Laws.{RetypeKeepsTypes, InstKeepsTypes, MapsAreFunctions, ApplyKeepsTypes, NothingStays, ComposedIsBoth, ComposedCanApply, NextCanApply, ComposedIsClosed}
-use Rattle.iv_put.proofs.Facts.Retype.{retype-has}
-use Rattle.iv_put.proofs.Facts.Inst.{inst-term}
+use Rattle.iv_put.specs.Laws.{MapsAreFunctions, ApplyKeepsTypes, NothingStays, ComposedIsBoth, ComposedCanApply, NextCanApply, ComposedIsClosed}
+use Rattle.iv_hsub.proofs.Terms.Retype.{retype-has}
 use Rattle.iv_put.proofs.Facts.Entries.{map-by, maps-by, applied-term, applied-nothing, apply-compose, can_apply-compose, can_apply-next, closed-composed}
-
-pub types_keep : RetypeKeepsTypes
-types_keep f bounds c t p = retype-has f bounds c t p
 
 pub retype_keeps : (s : TyMap) (bounds : Types) (t : Term) → IsTerm bounds t
     → HasType (put_typs (at s) bounds) (put_typ (at s) (type_of bounds t)) (retype (by_map s) t)
 retype_keeps s bounds t p =
     let r = retype-has (by_map s) bounds (type_of bounds t) t (p, refl) in
     subst (λ bs. HasType bs (put_typ (at s) (type_of bounds t)) (retype (by_map s) t)) (maps-by s bounds) (r.0, r.1 ∙ map-by s (type_of bounds t))
-
-pub values_keep : InstKeepsTypes
-values_keep F bounds c t k p = let r = inst-term F bounds t k p.0 in (r.0, r.1 ∙ p.1)
 
 pub maps_are : MapsAreFunctions
 maps_are = map-by

@@ -1,6 +1,6 @@
 -- A map of terms as the program keeps it: each value with its type (of this project).
 use Rattle.std.specs.Prelude.{List, [], ◌∷◌}
-use Rattle.iv_term.specs.declared.name.Name.{Name}
+use Rattle.iv_text.specs.declared.name.Name.{Name}
 use Rattle.iv_term.specs.declared.typ.Typ.TheBlock.{Nil as no_types}
 use Rattle.iv_hsub.specs.Typing.{HasType}
 use Rattle.iv_put.specs.declared.substitution.Entry.{Entry}

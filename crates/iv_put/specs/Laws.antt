@@ -1,22 +1,12 @@
 -- What the laws say.
-use Rattle.std.specs.Prelude.{◌≡◌, [], Option}
+use Rattle.std.specs.Prelude.{◌≡◌, []}
 use Rattle.iv_term.specs.declared.typ.Typ.{Typ}
 use Rattle.iv_term.specs.declared.typ.Types.{Types}
-use Rattle.iv_term.specs.declared.term.Head.{Head}
 use Rattle.iv_term.specs.declared.term.Term.{Term}
 use Rattle.iv_hsub.specs.Typing.{IsTerm, HasType}
 use Rattle.iv_subst.specs.TySubst.{TyMap, put_typ, put_typs, at}
-use Rattle.iv_put.specs.Retype.{map_typ, map_typs, retype}
-use Rattle.iv_put.specs.Inst.{inst, Vars, Fits}
+use Rattle.iv_hsub.specs.Retype.{map_typ}
 use Rattle.iv_put.specs.Subst.{Substitution, by_map, applied, CanApply, AreClosed, composed, CanCompose, CanFollow}
-
--- types put in a term leave a term, of its type with types put in
-abbrev pub RetypeKeepsTypes : Type 0
-RetypeKeepsTypes = (f : Typ → Typ) (bounds : Types) (c : Typ) (t : Term) → HasType bounds c t → HasType (map_typs f bounds) (map_typ f c) (retype f t)
-
--- values that fit their variables leave a term, of the same type
-abbrev pub InstKeepsTypes : Type 0
-InstKeepsTypes = (F : Head → Option Term) (bounds : Types) (c : Typ) (t : Term) → Vars (λ h a. Fits (F h) a) t → HasType bounds c t → HasType bounds c (inst F t)
 
 -- a map's types are put as the function puts them
 abbrev pub MapsAreFunctions : Type 0

@@ -1,5 +1,3 @@
-pub mod Retype
-pub mod Inst
 pub mod Subst
 pub mod Made
 pub mod Laws

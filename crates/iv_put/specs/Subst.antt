@@ -1,22 +1,17 @@
 -- Substitutions: types and terms put for schematic variables (Huet 1975; Robinson 1965).
 use Rattle.std.specs.Prelude.{◌≡◌, Bool, true, false, if◌then◌else◌, List, [], ◌∷◌, ◌++◌, Option, Some, None}
-use Rattle.iv_term.specs.declared.name.Name.{Name}
+use Rattle.iv_text.specs.declared.name.Name.{Name}
 use Rattle.iv_term.specs.declared.typ.Typ.{Typ}
-use Rattle.iv_term.specs.declared.typ.Types.{Types}
 use Rattle.iv_term.specs.declared.typ.Typ.TheBlock.{Schematic as Variable, Nil as no_types}
 use Rattle.iv_term.specs.declared.term.Head.{Head}
 use Rattle.iv_term.specs.declared.term.Head.TheVariants.{Schematic}
 use Rattle.iv_term.specs.declared.term.Term.{Term}
-use Rattle.iv_term.specs.declared.term.Terms.{Terms}
-use Rattle.iv_term.specs.declared.term.Term.TheBlock.{Spine, Nil}
-use Rattle.iv_term.specs.Typ.{same_name}
-use Rattle.iv_term.specs.Term.{lam, tm_cons}
+use Rattle.iv_text.specs.Name.{same_name}
 use Rattle.iv_hsub.specs.Typing.{IsTerm}
-use Rattle.iv_hsub.specs.Index.{contracts}
 use Rattle.iv_subst.specs.TySubst.{TyMap, at}
 use Rattle.iv_subst.specs.TySubst as types_specs
-use Rattle.iv_put.specs.Retype.{retype}
-use Rattle.iv_put.specs.Inst.{inst, Vars, Fits}
+use Rattle.iv_hsub.specs.Retype.{retype}
+use Rattle.iv_hsub.specs.Inst.{inst, Vars, Fits}
 
 -- a finite map from schematic variables to terms; the first entry of a name counts
 abbrev pub TermMap : Type 0
@@ -57,20 +52,6 @@ applied s t = inst (values s) (retype (by_map s.0) t)
 -- the value of each variable in a term has no loose index, and it has the variable's type under the types
 abbrev pub CanApply : Substitution → Term → Type 0
 CanApply s t = Vars (λ h a. Fits (values s h) a) (retype (by_map s.0) t)
-
--- a tree is a term, where its loose indices have some types
-abbrev pub IsOpenTerm : Term → Type 0
-IsOpenTerm t = (bounds : Types) × IsTerm bounds t
-
-abbrev mutual
-  -- no abstraction in a term can be contracted
-  pub IsShort : Term → Type 0
-  IsShort (lam a b) = IsShort b × (contracts b ≡ false)
-  IsShort (Spine h ts) = AreShort ts
-
-  pub AreShort : Terms → Type 0
-  AreShort Nil = Unit {0}
-  AreShort (tm_cons t ts) = IsShort t × AreShort ts
 
 -- what holds of each value
 unfoldable pub Values : (Term → Type 0) → TermMap → Type 0

@@ -1,26 +1,27 @@
 //! A substitution applied to a term.
-ghost use Rattle.std.specs.Prelude.{◌≡◌, false, IfOk, IfErr, MatchOption};
+ghost use Rattle.std.specs.Prelude.{◌≡◌, IfOk, IfErr, MatchOption};
 ghost use Rattle.std.specs.Option.{unwrap_or};
 ghost use Rattle.iv_term.specs.declared.typ.Types.{Types};
 ghost use Rattle.iv_term.specs.declared.term.Terms.{Terms};
 ghost use Rattle.iv_term.specs.declared.term.Term.TheBlock.{Spine};
-ghost use Rattle.iv_term.specs.Term.{lam};
-ghost use Rattle.iv_term.specs.declared.want.Want.TheVariants.{Memory, Number};
+ghost use Rattle.iv_text.specs.declared.want.Want.TheVariants.{Memory, Number};
 ghost use Rattle.iv_hsub.specs.Typing.{type_of, IsTerm, HasType};
-ghost use Rattle.iv_hsub.specs.Index.{contracts, eta};
 ghost use Rattle.iv_hsub.specs.Hsub.{happ};
-ghost use Rattle.iv_hsub.specs.Made.{IsPast, made_happ};
+ghost use Rattle.iv_hsub.specs.Made.{IsPast, made_happ, made_inst_head, made_inst_all};
 ghost use Rattle.iv_subst.specs.TySubst.{put_typ, put_typs, at};
-ghost use Rattle.iv_put.specs.Retype.{retype_head, retype_all};
-ghost use Rattle.iv_put.specs.Inst.{inst_head, inst_all};
-ghost use Rattle.iv_put.specs.Subst.{by_map, values, applied, CanApply, IsOpenTerm, IsShort, AreShort};
-ghost use Rattle.iv_put.specs.Made.{made_inst_head, made_inst_all, made_applied};
+ghost use Rattle.iv_hsub.specs.Retype.{retype_head, retype_all};
+ghost use Rattle.iv_hsub.specs.Inst.{inst_head, inst_all};
+ghost use Rattle.iv_put.specs.Subst.{by_map, values, applied, CanApply};
+ghost use Rattle.iv_hsub.specs.Open.{IsOpenTerm, IsShort, AreShort};
+ghost use Rattle.iv_put.specs.Made.{made_applied};
 
-use crate::retyping::{changed_head, changed_typ, with_args, with_parts};
+use crate::retyping::{changed_head, changed_typ};
 use crate::substitution::Subst;
-use iv_hsub::{eta, happ};
-use iv_shared::Shared;
-use iv_term::{Head, Mem, Term, Terms, Typ, new_or_copy};
+use iv_hsub::contraction::with_body;
+use iv_hsub::happ;
+use iv_term::changed_term::{with_args, with_parts};
+use iv_term::{Head, Term, Terms, Typ};
+use iv_text::{Mem, new_or_copy};
 use std::alloc::Global;
 
 impl Subst {
@@ -91,30 +92,6 @@ fn changed_all(alloc: Global, ts: &Terms, s: &Subst) -> Mem<Option<Terms>>
             let first = changed(alloc, t.get(), s)?;
             let more = changed_all(alloc, rest.get(), s)?;
             with_parts(alloc, first, t, more, rest)
-        }
-    }
-}
-
-/// An abstraction where the type or the body may be new; the old one can't be contracted, and the new one is where it
-/// can be. Fails where memory runs out.
-pub fn with_body(
-    alloc: Global,
-    a: &Typ,
-    typ: Option<Typ>,
-    body: Option<Term>,
-    old: &Shared<Term>,
-) -> Mem<Option<Term>>
-    ensures ok { contracts old.now ≡ false → IfOk result (λ r. unwrap_or r (lam a.now old.now) ≡ eta (unwrap_or typ a.now) (unwrap_or body old.now)) }
-    ensures memory { IfErr result (λ w. w ≡ Memory) }
-{
-    match typ {
-        None => match body {
-            None => Ok(None),
-            Some(body) => Ok(Some(eta(alloc, a, body)?)),
-        },
-        Some(typ) => {
-            let body = new_or_copy(body, old.get())?;
-            Ok(Some(eta(alloc, &typ, body)?))
         }
     }
 }

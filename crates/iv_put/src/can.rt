@@ -1,8 +1,8 @@
 //! Whether a substitution can be applied.
 ghost use Rattle.std.specs.Prelude.{◌≡◌, IsTrue, ◌↔◌};
 ghost use Rattle.iv_subst.specs.TySubst.{put_typ, put_typs, at};
-ghost use Rattle.iv_put.specs.Retype.{retype_head, retype, retype_all};
-ghost use Rattle.iv_put.specs.Inst.{HeadVars, AllVars, Fits};
+ghost use Rattle.iv_hsub.specs.Retype.{retype_head, retype, retype_all};
+ghost use Rattle.iv_hsub.specs.Inst.{HeadVars, AllVars, Fits};
 ghost use Rattle.iv_put.specs.Subst.{by_map, values, CanApply, CanCompose};
 
 use crate::substitution::Subst;

@@ -2,14 +2,14 @@
 ghost use Rattle.std.specs.Prelude.{◌≡◌, ◌++◌, IfOk, IfErr, OnOk};
 ghost use Rattle.std.specs.List.{IsDistinct};
 ghost use Rattle.std.specs.Map.{keys_of};
-ghost use Rattle.iv_term.specs.Typ.{same_name};
-ghost use Rattle.iv_term.specs.declared.want.Want.TheVariants.{Memory, Number};
+ghost use Rattle.iv_text.specs.Name.{same_name};
+ghost use Rattle.iv_text.specs.declared.want.Want.TheVariants.{Memory, Number};
 ghost use Rattle.iv_hsub.specs.Made.{IsPast};
 ghost use Rattle.iv_put.specs.Subst.{under, unhidden, composed, CanCompose};
 ghost use Rattle.iv_put.specs.Made.{made_under};
 
 use crate::substitution::Subst;
-use iv_term::Mem;
+use iv_text::Mem;
 use std::alloc::Global;
 
 impl Subst {

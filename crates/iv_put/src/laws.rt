@@ -1,11 +1,9 @@
 //! The laws of substitutions, each as the contract of a function that does nothing.
-ghost use Rattle.iv_put.specs.Laws.{RetypeKeepsTypes, InstKeepsTypes, MapsAreFunctions, ApplyKeepsTypes, NothingStays, ComposedIsBoth, ComposedCanApply, NextCanApply, ComposedIsClosed};
+ghost use Rattle.iv_put.specs.Laws.{MapsAreFunctions, ApplyKeepsTypes, NothingStays, ComposedIsBoth, ComposedCanApply, NextCanApply, ComposedIsClosed};
 
-/// Types put in a term leave a term, of its type with types put in; values that fit their variables leave a term of
-/// the same type. Both hold of any function of variables, and so of a finite map.
+/// A finite map of types is put as its function is, and a substitution that can be applied leaves a term, of its type with
+/// types put in.
 pub fn putting_gives_terms()
-    ensures types { RetypeKeepsTypes }
-    ensures values { InstKeepsTypes }
     ensures maps { MapsAreFunctions }
     ensures both { ApplyKeepsTypes }
 {}

@@ -3,8 +3,7 @@
 //! [`Subst`] is a substitution: a map of types and a finite map from schematic variables to terms without loose
 //! indices. Applying it puts the types first, and then all terms at once, by hereditary substitution; [`retype`] puts types
 //! alone. Where each value has its variable's type, a term becomes a term, of its type with the types put in, and a
-//! composition is one substitution after the other: that is in [`laws`]. The rules of the logic and their instances stand on
-//! this crate.
+//! composition is one substitution after the other: that is in [`laws`].
 #![tactic(auto)]
 
 pub mod apply;
@@ -16,6 +15,3 @@ pub mod substitution;
 
 pub use retyping::retype;
 pub use substitution::Subst;
-
-#[cfg(test)]
-mod tests;

@@ -3,16 +3,17 @@ ghost use Rattle.std.specs.Prelude.{◌≡◌, [], ◌∷◌, ◌++◌, ◌<◌,
 ghost use Rattle.std.specs.List.{IsDistinct};
 ghost use Rattle.std.specs.Map.{keys_of};
 ghost use Rattle.std.specs.Option.{option_copied};
-ghost use Rattle.iv_term.specs.Typ.{same_name};
+ghost use Rattle.iv_text.specs.Name.{same_name};
 ghost use Rattle.iv_term.specs.declared.typ.Typ.TheBlock.{Nil};
-ghost use Rattle.iv_term.specs.declared.want.Want.TheVariants.{Memory};
+ghost use Rattle.iv_text.specs.declared.want.Want.TheVariants.{Memory};
 ghost use Rattle.iv_hsub.specs.Typing.{IsTerm, HasType};
 ghost use Rattle.iv_put.specs.Subst.{value_of, has_value, AreClosed};
 
 use iv_hsub::type_of;
 use iv_map::NameMap;
 use iv_subst::TySubst;
-use iv_term::{Copied, Mem, Name, Term, Typ, Types};
+use iv_term::{Term, Typ, Types};
+use iv_text::{Copied, Mem, Name};
 use std::alloc::Global;
 use std::marker::Model;
 
@@ -43,7 +44,7 @@ pub struct Subst {
 
 impl Model for Subst {
     ghost use Rattle.std.specs.Coded.{codes};
-    ghost use Rattle.iv_term.specs.contracts.name.Name as a_name;
+    ghost use Rattle.iv_text.specs.contracts.name.Name as a_name;
     ghost use Rattle.iv_term.specs.contracts.term.Term as a_term;
     ghost use Rattle.iv_subst.specs.contracts.ty_subst.TySubst as a_subst;
     ghost use Rattle.iv_put.specs.Subst.{Substitution};

@@ -14,9 +14,9 @@ use Rattle.iv_forms.specs.CommandForm as C
 use Rattle.iv_forms.specs.CommandForm.{IsAxiom, IsMoreAxioms, IsAxioms, IsFixes, IsAssumes, IsStatement}
 use Rattle.iv_facts.specs.Found.{got, then_, begins, behind, many, unless_deep}
 use Rattle.iv_facts.specs.FactLevels.{opt_atts_levels, deep_at, deep_opt_label}
-use Rattle.iv_read.specs.CommandLevels.{deep_axiom, deep_more_axioms, deep_axioms, deep_assumes, deep_statement}
+use Rattle.iv_readpart.specs.CommandLevels.{deep_axiom, deep_more_axioms, deep_axioms, deep_assumes, deep_statement}
 use Rattle.iv_facts.specs.Props as P
-use Rattle.iv_read.specs.Commands as K
+use Rattle.iv_readpart.specs.Commands as K
 use Rattle.iv_facts.proofs.Steps.{many_stop}
 use Rattle.iv_facts.proofs.Held.{then_unless, then_got, or_so}
 use Rattle.iv_read.proofs.Lengths.{len_IsAxiom}

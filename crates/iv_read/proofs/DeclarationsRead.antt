@@ -12,7 +12,7 @@ use Rattle.iv_forms.specs.declared.lexeme.Lexeme.{Lexeme}
 use Rattle.iv_forms.specs.CommandForm as C
 use Rattle.iv_forms.specs.CommandForm.{IsSomeNat, IsFixity, IsFix, IsConst, IsMoreConsts, IsAndConsts, IsAxiomConsts, IsMoreTvars, IsTvars, IsJudgmentForm, IsEquation, IsMoreEquations}
 use Rattle.iv_facts.specs.Found.{got, then_, begins, behind, many}
-use Rattle.iv_read.specs.Declarations as D
+use Rattle.iv_readpart.specs.Declarations as D
 use Rattle.iv_facts.proofs.Steps.{many_stop}
 use Rattle.iv_read.proofs.Lengths.{len_IsConst, len_IsEquation}
 use Rattle.iv_read.proofs.Firsts.{free_IsMoreConsts, free_IsAndConsts}

@@ -10,7 +10,7 @@ use Rattle.iv_forms.specs.declared.lexeme.Lexeme.{Lexeme}
 use Rattle.iv_forms.specs.CommandForm as C
 use Rattle.iv_forms.specs.CommandForm.{IsAxiom, axiom_is, IsMoreAxioms, no_more_axioms, more_axioms, IsAxioms, no_axioms, axioms, IsAssumes, no_assumes, assumes, IsStatement, short, long, IsNoteGroup, note_group, IsMoreNotes, no_more_notes, more_notes, IsNotes, named_notes, bare_notes, IsObtained, obtained_props, obtained_names, IsForm}
 use Rattle.iv_facts.specs.FactLevels.{opt_atts_levels}
-use Rattle.iv_read.specs.CommandLevels.{deep_axiom, deep_more_axioms, deep_axioms, deep_assumes, deep_statement, deep_note_group, deep_more_notes, deep_notes, deep_obtained}
+use Rattle.iv_readpart.specs.CommandLevels.{deep_axiom, deep_more_axioms, deep_axioms, deep_assumes, deep_statement, deep_note_group, deep_more_notes, deep_notes, deep_obtained}
 use Rattle.iv_read.specs.FormLevels.{deep_form}
 use Rattle.iv_read.proofs.Tails.{tail_IsAxiomConsts, tail_IsAxiom, tail_IsParts, tail_IsFixes, tail_IsNoteGroup}
 use Rattle.iv_facts.specs.Found.{Placed, nowhere}

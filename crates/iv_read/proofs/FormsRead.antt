@@ -33,13 +33,13 @@ use Rattle.iv_forms.specs.CommandForm.{IsForm}
 use Rattle.iv_facts.specs.Found.{got, then_, begins, one, unless_deep}
 use Rattle.iv_facts.specs.FactLevels.{opt_atts_levels, deep_at, first_of, deep_facts, deep_opt_label, deep_claim, deep_props}
 use Rattle.iv_readmethod.specs.MethodLevels.{deep_method, deep_opt_method}
-use Rattle.iv_read.specs.CommandLevels.{deep_axioms, deep_statement, deep_notes, deep_obtained}
+use Rattle.iv_readpart.specs.CommandLevels.{deep_axioms, deep_statement, deep_notes, deep_obtained}
 use Rattle.iv_read.specs.FormLevels.{deep_form}
 use Rattle.iv_facts.specs.Facts as F
 use Rattle.iv_facts.specs.Props as P
 use Rattle.iv_readmethod.specs.Methods as M
-use Rattle.iv_read.specs.Declarations as D
-use Rattle.iv_read.specs.Commands as K
+use Rattle.iv_readpart.specs.Declarations as D
+use Rattle.iv_readpart.specs.Commands as K
 use Rattle.iv_read.specs.Forms as W
 use Rattle.iv_facts.proofs.Held.{then_unless, then_got, no_and}
 use Rattle.iv_read.proofs.Firsts as First

@@ -26,10 +26,10 @@ use Rattle.iv_forms.specs.CommandForm.{IsParts, IsNoteGroup, IsMoreNotes, IsNote
 use Rattle.iv_facts.specs.declared.props.Named.{Named}
 use Rattle.iv_facts.specs.Found.{got, wrong, deep, then_, begins, behind, one, many, fold, unless_deep}
 use Rattle.iv_facts.specs.FactLevels.{opt_atts_levels, deep_at, first_of, deep_fact, deep_more_facts, deep_facts}
-use Rattle.iv_read.specs.CommandLevels.{deep_note_group, deep_more_notes, deep_notes, deep_obtained}
+use Rattle.iv_readpart.specs.CommandLevels.{deep_note_group, deep_more_notes, deep_notes, deep_obtained}
 use Rattle.iv_facts.specs.Facts as F
 use Rattle.iv_facts.specs.Props as P
-use Rattle.iv_read.specs.Commands as K
+use Rattle.iv_readpart.specs.Commands as K
 use Rattle.iv_facts.proofs.Steps.{many_stop, fold_stop}
 use Rattle.iv_facts.proofs.Held.{then_unless, then_got, or_so}
 use Rattle.iv_read.proofs.Lengths.{len_IsNoteGroup}

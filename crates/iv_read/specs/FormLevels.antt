@@ -7,7 +7,7 @@ use Rattle.iv_forms.specs.CommandForm as C
 use Rattle.iv_forms.specs.CommandForm.{IsForm}
 use Rattle.iv_facts.specs.FactLevels.{opt_atts_levels, deep_at, first_of, deep_facts, deep_opt_label, deep_claim, deep_props}
 use Rattle.iv_readmethod.specs.MethodLevels.{deep_method, deep_opt_method}
-use Rattle.iv_read.specs.CommandLevels.{deep_axioms, deep_statement, deep_notes, deep_obtained}
+use Rattle.iv_readpart.specs.CommandLevels.{deep_axioms, deep_statement, deep_notes, deep_obtained}
 
 abbrev pub deep_form : {f : Body} {ts us : List Lexeme} → IsForm f ts us → Option Pos
 deep_form (C.axiomatization w cs xs) = deep_axioms xs

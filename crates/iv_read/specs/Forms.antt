@@ -16,8 +16,8 @@ use Rattle.iv_facts.specs.Found.{Found, got, wrong, then_, one}
 use Rattle.iv_facts.specs.Facts.{facts}
 use Rattle.iv_facts.specs.Props.{text_of, some_of, opt_label, claim, props, of_type, vars, opt_for}
 use Rattle.iv_readmethod.specs.Methods.{a_method, opt_method}
-use Rattle.iv_read.specs.Commands.{statement, notes, obtained, parts, axioms, note_name}
-use Rattle.iv_read.specs.Declarations.{some_nat, constant, more_consts, axiom_consts, tvars, judgment_form, equation, more_equations}
+use Rattle.iv_readpart.specs.Commands.{statement, notes, obtained, parts, axioms, note_name}
+use Rattle.iv_readpart.specs.Declarations.{some_nat, constant, more_consts, axiom_consts, tvars, judgment_form, equation, more_equations}
 
 unfoldable pub theory : List Lexeme → Found Body
 theory ts = then_ (text_of sort.Name ts) (λ n us. then_ (one (sort.Only class.Imports) us) (λ i vs. then_ (some_of sort.Name vs) (λ xs ws. then_ (one (sort.Only class.Begin) ws) (λ b ys. got (VBody.Theory n xs) ys))))

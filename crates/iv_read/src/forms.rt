@@ -4,13 +4,9 @@ ghost use Rattle.iv_facts.specs.Found.{got, wrong, then_, IsStop};
 ghost use Rattle.iv_recogniser.specs.declared.class.Sort.TheVariants.{Quoted};
 ghost use Rattle.iv_facts.specs.Facts.{facts};
 ghost use Rattle.iv_facts.specs.Props.{claim, text_of};
-ghost use Rattle.iv_read.specs.Commands.{statement};
+ghost use Rattle.iv_readpart.specs.Commands.{statement};
 ghost use Rattle.iv_read.specs.Forms.{theory, typedecl, consts, judgment, axiomatization, lemmas, method_definition, define, let_, by, text_body, facts_body, claim_body, statement_body, word_body, kind_of, declaration_form, context_form, proof_form, by_class, form};
 
-use crate::commands::{axioms, note_name, notes, obtained, parts, statement};
-use crate::declarations::{
-    axiom_consts, constant, equation, judgment_form, more_consts, more_equations, some_nat, tvars,
-};
 use iv_facts::Stop;
 use iv_facts::facts::facts;
 use iv_facts::props::{claim, of_type, opt_for, opt_label, props, some_of, text_of, vars};
@@ -18,6 +14,10 @@ use iv_facts::tokens::one;
 use iv_forms::{Body, Claim, Fact, Items, Lexeme, Statement};
 use iv_lex::Token;
 use iv_readmethod::methods::{a_method, opt_method};
+use iv_readpart::commands::{axioms, note_name, notes, obtained, parts, statement};
+use iv_readpart::declarations::{
+    axiom_consts, constant, equation, judgment_form, more_consts, more_equations, some_nat, tvars,
+};
 use iv_recogniser::{Class, Sort};
 use std::alloc::Global;
 

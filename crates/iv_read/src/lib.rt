@@ -5,8 +5,6 @@
 //! first part with more than 400 levels. `iv_outer` stands on it.
 #![tactic(auto)]
 
-pub mod commands;
-pub mod declarations;
 pub mod forms;
 pub mod laws;
 

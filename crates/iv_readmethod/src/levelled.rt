@@ -1,6 +1,6 @@
 //! Parts of methods with their levels.
 ghost use Rattle.std.specs.Prelude.{◌≡◌, IfOk, IfErr, OnOk};
-ghost use Rattle.iv_term.specs.declared.want.Want.TheVariants.{Memory};
+ghost use Rattle.iv_text.specs.declared.want.Want.TheVariants.{Memory};
 ghost use Rattle.iv_facts.specs.Found.{got, IsStop};
 ghost use Rattle.iv_facts.specs.FactLevels.{first_of};
 ghost use Rattle.iv_readmethod.specs.Methods.{flat, more, raised};
@@ -8,8 +8,7 @@ ghost use Rattle.iv_readmethod.specs.Methods.{flat, more, raised};
 use iv_facts::Stop;
 use iv_facts::tokens::place;
 use iv_forms::{Items, Lexeme};
-use iv_term::Mem;
-use iv_text::Pos;
+use iv_text::{Mem, Pos};
 
 /// A part of a method.
 #[derive(Drop)]

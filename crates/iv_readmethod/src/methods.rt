@@ -2,7 +2,7 @@
 ghost use Rattle.std.specs.Prelude.{◌≡◌, ◌&&◌, ◌||◌, [], ◌∷◌, IfOk, IfErr};
 ghost use Rattle.iv_recogniser.specs.declared.class.Class.TheVariants as class;
 ghost use Rattle.iv_recogniser.specs.declared.class.Sort.TheVariants as sort;
-ghost use Rattle.iv_term.specs.declared.want.Want.TheVariants.{Memory};
+ghost use Rattle.iv_text.specs.declared.want.Want.TheVariants.{Memory};
 ghost use Rattle.iv_facts.specs.Found.{got, IsStop, begins, behind};
 ghost use Rattle.iv_readmethod.specs.Methods.{opens, closes, brackets, stays, past, noted_facts, section, sections, alone, subject_term, subject, rule, suffix, both, raised, between, joined, goes_arg, parens, core, method, arg, args, call, case, more_cases, match_, item, operand, linked, inside, a_method, opt_method};
 

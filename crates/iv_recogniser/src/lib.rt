@@ -17,6 +17,3 @@ pub use class::{Class, Sort};
 pub use part::{Part, Symbol};
 pub use reading::{Verdict, read};
 pub use table::forms;
-
-#[cfg(test)]
-mod tests;

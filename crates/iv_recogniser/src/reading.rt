@@ -1,6 +1,6 @@
 ghost use Rattle.std.specs.Prelude.{◌≡◌, IfOk, IfErr, OnOk, ◌++◌, ◌∷◌, [], reverse};
 ghost use Rattle.std.specs.List.{list_all};
-ghost use Rattle.iv_term.specs.declared.want.Want.TheVariants.{Memory};
+ghost use Rattle.iv_text.specs.declared.want.Want.TheVariants.{Memory};
 ghost use Rattle.iv_recogniser.specs.declared.part.Symbol.TheVariants.{Goes};
 ghost use Rattle.iv_recogniser.specs.Table.{forms, plain};
 ghost use Rattle.iv_recogniser.specs.Spell.{Judged};
@@ -9,7 +9,7 @@ ghost use Rattle.iv_recogniser.specs.Step.{behind, found, may_end, passes, Stepp
 use crate::class::Class;
 use crate::part::{Part, Symbol};
 use crate::table::forms;
-use iv_term::Mem;
+use iv_text::Mem;
 use std::alloc::Global;
 
 /// What is known of some classes.

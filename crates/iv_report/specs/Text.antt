@@ -1,7 +1,7 @@
 -- The parts of a report's lines. Of this project.
 use Rattle.std.specs.Prelude.{ℕ, Bool, List, [], ◌++◌, ◌==◌, if◌then◌else◌, codes}
 use Rattle.std.specs.Fmt.{decimal}
-use Rattle.iv_term.specs.declared.name.Name.{Name}
+use Rattle.iv_text.specs.declared.name.Name.{Name}
 
 -- a text where a condition holds, and else nothing
 abbrev pub only_if : Bool → List ℕ → List ℕ

@@ -10,6 +10,3 @@ pub mod text;
 pub mod widths;
 
 pub use places::{Cursor, LIMIT};
-
-#[cfg(test)]
-mod tests;

@@ -1,10 +1,10 @@
 //! Writers of the parts of a line: each appends to the characters so far.
 ghost use Rattle.std.specs.Prelude.{◌≡◌, ◌<◌, ◌+◌, ◌++◌, ◌∷◌, [], OnOk, IfErr};
 ghost use Rattle.std.specs.Fmt.{decimal};
-ghost use Rattle.iv_term.specs.declared.want.Want.TheVariants.{Memory};
+ghost use Rattle.iv_text.specs.declared.want.Want.TheVariants.{Memory};
 ghost use Rattle.iv_report.specs.Text.{only_if, number_text, name_text, place_text};
 
-use iv_term::{Mem, Name, Text};
+use iv_text::{Mem, Name, Text};
 
 /// Writes one character. Fails where memory runs out.
 pub fn push_char(line: &mut Vec<char>, c: char) -> Mem<()>

@@ -1,25 +1,26 @@
 -- Each rule, on a small example: the definitions compute what they should.
 use Rattle.std.proofs.Common.{◌≡◌, ℕ, true, false, [], ◌∷◌, codes, refl, sym, ap, arith}
-use Rattle.iv_term.specs.declared.name.Name.{Name}
+use Rattle.iv_text.specs.declared.name.Name.{Name}
 use Rattle.iv_term.specs.declared.typ.Typ.{Typ}
 use Rattle.iv_term.specs.declared.typ.Typ.TheBlock.{Con, Schematic as Variable, Nil as no_types}
 use Rattle.iv_term.specs.declared.term.Head.TheVariants.{Free, Schematic}
 use Rattle.iv_term.specs.declared.term.Term.{Term}
 use Rattle.iv_term.specs.declared.term.Term.TheBlock.{Spine, Nil}
 use Rattle.iv_term.specs.Typ.{prop, fun, same_typ, same_typs}
-use Rattle.iv_term.specs.Term.{lam, tm_cons, imp, same_term, same_terms, any_has_free}
+use Rattle.iv_term.specs.Term.{lam, tm_cons, imp, same_term, same_terms}
 use Rattle.iv_term.specs.Hyps.{among, snoc, added, union, without, IsDistinctTerms}
 use Rattle.iv_hsub.specs.Typing.{dom, cod, types_len, type_at, result_type, type_of, IsTerm, HasType}
 use Rattle.iv_hsub.specs.Index.{index, raise, raise_all, occurs, occurs_in, lower, lower_all, ends_in_0, front, contracts, eta}
 use Rattle.iv_hsub.specs.Hsub.{append, put, put_all, happ}
 use Rattle.iv_hsub.specs.Abstract.{free, bind, bind_all, abstract_over}
 use Rattle.iv_hsub.specs.Hhf.{one, expand, push, push_args, push_under, hhf, hhf_all}
-use Rattle.iv_put.specs.Retype.{map_typ, map_typs, retype, retype_all}
-use Rattle.iv_put.specs.Inst.{inst as put_values, inst_all}
+use Rattle.iv_hsub.specs.Retype.{map_typ, map_typs, retype, retype_all}
+use Rattle.iv_hsub.specs.Inst.{inst as put_values, inst_all}
 use Rattle.iv_rules.specs.declared.instance.Instance.{Instance}
 use Rattle.iv_rules.specs.declared.derivation.Derivation.{Derivation}
 use Rattle.iv_rules.specs.declared.derivation.Derivation.TheBlock.{Axiom, Assume, Refl}
 use Rattle.iv_rules.specs.Derivation.{imp_intr, imp_elim, all_intr, all_elim, eq_sym, eq_trans, comb, abs, eq_intr, eq_elim, conv, inst}
+use Rattle.iv_rules.specs.Eigenvariable.{any_has_named}
 use Rattle.iv_rules.specs.Equality.{eq, all}
 use Rattle.iv_rules.specs.Instance.{AreTyped, changes_typ, changes_typs, changes, changes_any}
 use Rattle.iv_rules.specs.Sequent.{closed, IsProp, AreProps, IsSequent}
@@ -132,7 +133,7 @@ unfolding type_of result_type dom cod types_len type_at contracts ends_in_0 fron
 all_equal-is = ((tt, (refl, (((tt, (refl, ((omega arith, tt), (refl, ((omega arith, tt), tt))))), refl), tt))), refl)
 
 by-all_intr : Concludes (all_intr (name 120) i (Refl x)) (closed all_equal)
-unfolding Concludes any_has_free abstract_over bind bind_all eta contracts ends_in_0 front occurs occurs_in same_typ same_typs type_of result_type
+unfolding Concludes any_has_named abstract_over bind bind_all eta contracts ends_in_0 front occurs occurs_in same_typ same_typs type_of result_type
 by-all_intr = (closed (equal x x), (by-refl x x-is.0, (refl, (refl, closed-is _ all_equal-is))))
 
 by-all_elim : Concludes (all_elim y (all_intr (name 120) i (Refl x))) (closed (equal y y))
@@ -148,7 +149,7 @@ unfolding type_of result_type types_len type_at contracts ends_in_0
 identity-is = (((omega arith, tt), refl), refl)
 
 by-abs : Concludes (abs (name 120) i (said (equal (f x) x))) (closed (eq (fun i i) f_alone identity))
-unfolding Concludes any_has_free abstract_over bind bind_all eta contracts ends_in_0 front occurs occurs_in lower lower_all same_typ same_typs type_of result_type dom
+unfolding Concludes any_has_named abstract_over bind bind_all eta contracts ends_in_0 front occurs occurs_in lower lower_all same_typ same_typs type_of result_type dom
 by-abs =
     (closed (equal (f x) x), (said-is _ (eq-is i (f x) x (f-is x x-is) x-is), ((refl, refl), (refl, closed-is _ (eq-is (fun i i) f_alone identity ((tt, tt), refl) identity-is)))))
 

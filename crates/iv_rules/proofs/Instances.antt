@@ -2,7 +2,7 @@
 use Rattle.std.proofs.Common.{◌≡◌, Bool, true, false, ◌&&◌, Option, Some, [], ◌∷◌, refl, subst}
 use Rattle.std.specs.Prelude.{if◌then◌else◌}
 use Rattle.std.proofs.lemmas.Bool.{and_parts}
-use Rattle.iv_term.specs.declared.name.Name.{Name}
+use Rattle.iv_text.specs.declared.name.Name.{Name}
 use Rattle.iv_term.specs.declared.typ.Typ.{Typ}
 use Rattle.iv_term.specs.declared.typ.Typ.TheBlock.{Nil as no_types}
 use Rattle.iv_term.specs.declared.term.Head.{Head}
@@ -10,13 +10,14 @@ use Rattle.iv_term.specs.declared.term.Head.TheVariants.{Const, Free, Schematic,
 use Rattle.iv_term.specs.declared.term.Term.{Term}
 use Rattle.iv_term.specs.declared.term.Terms.{Terms}
 use Rattle.iv_term.specs.declared.term.Term.TheBlock.{Spine, Nil}
-use Rattle.iv_term.specs.Typ.{prop, same_name, same_typ}
+use Rattle.iv_term.specs.Typ.{prop, same_typ}
+use Rattle.iv_text.specs.Name.{same_name}
 use Rattle.iv_term.specs.Term.{lam, tm_cons}
 use Rattle.iv_term.proofs.Laws.Same.{same_typ-true}
 use Rattle.iv_hsub.specs.Typing.{HasType}
-use Rattle.iv_put.specs.Retype.{map_typ, map_typs, retype, retype_all}
-use Rattle.iv_put.specs.Inst.{inst_all, HeadVars, Vars, AllVars, Fits}
-use Rattle.iv_put.specs.Laws.{RetypeKeepsTypes, InstKeepsTypes}
+use Rattle.iv_hsub.specs.Retype.{map_typ, map_typs, retype, retype_all}
+use Rattle.iv_hsub.specs.Inst.{inst_all, HeadVars, Vars, AllVars, Fits}
+use Rattle.iv_hsub.specs.Laws.{RetypeKeepsTypes, InstKeepsTypes}
 use Rattle.iv_rules.specs.declared.instance.Instance.{Instance}
 use Rattle.iv_rules.specs.Entries.{VarMap, same_var, term_at}
 use Rattle.iv_rules.specs.Instance.{types_of, values_of, instanced_all, AreTyped, AreValuesTyped}

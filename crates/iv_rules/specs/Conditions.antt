@@ -1,16 +1,16 @@
 -- When a rule can be used: the condition of each, on its arguments and its premises H |- p and K |- q (Reference Manual,
 -- primitive inferences; the selection is of this project).
 use Rattle.std.specs.Prelude.{◌≡◌, false}
-use Rattle.iv_term.specs.declared.name.Name.{Name}
-use Rattle.iv_term.specs.declared.typ.Typ.{Typ}
+use Rattle.iv_text.specs.declared.name.Name.{Name}
 use Rattle.iv_term.specs.declared.typ.Typ.TheBlock.{Nil as no_types}
 use Rattle.iv_term.specs.declared.term.Term.{Term}
 use Rattle.iv_term.specs.declared.term.Terms.{Terms}
 use Rattle.iv_term.specs.Typ.{prop, fun}
-use Rattle.iv_term.specs.Term.{imp, antecedent, consequent, IsImplication, any_has_free}
+use Rattle.iv_term.specs.Term.{imp, antecedent, consequent, IsImplication}
 use Rattle.iv_hsub.specs.Typing.{cod, type_of}
 use Rattle.iv_hsub.specs.Hhf.{hhf}
 use Rattle.iv_rules.specs.declared.instance.Instance.{Instance}
+use Rattle.iv_rules.specs.Eigenvariable.{any_has_named}
 use Rattle.iv_rules.specs.Equality.{eq, rhs, side_type, IsEquation, all, predicate}
 use Rattle.iv_rules.specs.Instance.{AreValuesTyped, IsFreshFor}
 use Rattle.iv_rules.specs.Sequent.{IsClosed, IsProp}
@@ -19,9 +19,9 @@ use Rattle.iv_rules.specs.Sequent.{IsClosed, IsProp}
 abbrev pub CanImpElim : Term → Term → Type 0
 CanImpElim p q = p ≡ imp q (consequent p)
 
--- x of type a isn't free in H
-abbrev pub CanAllIntr : Name → Typ → Terms → Type 0
-CanAllIntr x a hs = any_has_free x a hs ≡ false
+-- no free variable named x, of whatever type, stands in H
+abbrev pub CanAllIntr : Name → Terms → Type 0
+CanAllIntr x hs = any_has_named x hs ≡ false
 
 -- v has no loose index, and p is !!x. B for an x of its type
 abbrev pub CanAllElim : Term → Term → Type 0
@@ -35,9 +35,9 @@ CanTrans p q = IsEquation p × (q ≡ eq (side_type p) (rhs p) (rhs q))
 abbrev pub CanComb : Term → Term → Type 0
 CanComb p q = IsEquation p × IsEquation q × (side_type p ≡ fun (side_type q) (cod (side_type p)))
 
--- p is an equation, and x of type a isn't free in H
-abbrev pub CanAbs : Name → Typ → Terms → Term → Type 0
-CanAbs x a hs p = IsEquation p × (any_has_free x a hs ≡ false)
+-- p is an equation, and no free variable named x, of whatever type, stands in H
+abbrev pub CanAbs : Name → Terms → Term → Type 0
+CanAbs x hs p = IsEquation p × (any_has_named x hs ≡ false)
 
 -- p is A ==> B, and q is B ==> A
 abbrev pub CanEqIntr : Term → Term → Type 0

@@ -1,6 +1,6 @@
 -- Derivations with premises: as patterns, and as what they are.
 use Rattle.std.specs.Prelude.{◌≡◌, refl}
-use Rattle.iv_term.specs.declared.name.Name.{Name}
+use Rattle.iv_text.specs.declared.name.Name.{Name}
 use Rattle.iv_term.specs.declared.typ.Typ.{Typ}
 use Rattle.iv_term.specs.declared.term.Term.{Term}
 use Rattle.iv_rules.specs.declared.instance.Instance.{Instance}

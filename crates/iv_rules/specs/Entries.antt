@@ -2,10 +2,11 @@
 use Rattle.std.specs.Prelude.{ℕ, Bool, ◌&&◌, List, Option}
 use Rattle.std.specs.Map.{lookup}
 use Rattle.std.specs.Str.{bytes_eq}
-use Rattle.iv_term.specs.declared.name.Name.{Name}
+use Rattle.iv_text.specs.declared.name.Name.{Name}
 use Rattle.iv_term.specs.declared.typ.Typ.{Typ}
 use Rattle.iv_term.specs.declared.term.Term.{Term}
-use Rattle.iv_term.specs.Typ.{same_name, same_typ}
+use Rattle.iv_term.specs.Typ.{same_typ}
+use Rattle.iv_text.specs.Name.{same_name}
 
 -- types for fixed and for schematic type variables; terms for variables of one kind, by name and type
 abbrev pub FixedMap : Type 0

@@ -12,12 +12,13 @@ use Rattle.iv_term.specs.declared.term.Head.TheVariants.{Const, Free, Schematic,
 use Rattle.iv_term.specs.declared.term.Term.{Term}
 use Rattle.iv_term.specs.declared.term.Terms.{Terms}
 use Rattle.iv_term.specs.declared.term.Term.TheBlock.{Spine, Nil}
-use Rattle.iv_term.specs.Typ.{ty_cons, same_name}
+use Rattle.iv_term.specs.Typ.{ty_cons}
+use Rattle.iv_text.specs.Name.{same_name}
 use Rattle.iv_term.specs.Term.{lam, tm_cons}
 use Rattle.iv_term.specs.Hyps.{union}
 use Rattle.iv_hsub.specs.Typing.{HasType}
-use Rattle.iv_put.specs.Retype.{retype, retype_all}
-use Rattle.iv_put.specs.Inst.{inst, inst_all}
+use Rattle.iv_hsub.specs.Retype.{retype, retype_all}
+use Rattle.iv_hsub.specs.Inst.{inst, inst_all}
 use Rattle.iv_rules.specs.declared.instance.Instance.{Instance}
 use Rattle.iv_rules.specs.Entries.{VarMap, same_var, fixed_at, schematic_at, term_at}
 

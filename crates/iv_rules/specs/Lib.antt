@@ -1,9 +1,11 @@
 pub mod Entries
 pub mod Equality
 pub mod Instance
+pub mod Eigenvariable
 pub mod Sequent
 pub mod Derivation
 pub mod Conditions
+pub mod Conclusions
 pub mod Rules
 pub mod Laws
 pub mod Steps

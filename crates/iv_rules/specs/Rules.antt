@@ -1,89 +1,66 @@
 -- What derivations conclude (Reference Manual, primitive inferences; the selection is of this project).
 use Rattle.std.specs.Prelude.{ℕ, List, [], ◌∷◌, ◌++◌, Contains}
-use Rattle.iv_term.specs.declared.name.Name.{Name}
+use Rattle.iv_text.specs.declared.name.Name.{Name}
 use Rattle.iv_term.specs.declared.typ.Typ.{Typ}
-use Rattle.iv_term.specs.declared.typ.Typ.TheBlock.{Nil as no_types}
 use Rattle.iv_term.specs.declared.term.Term.{Term}
 use Rattle.iv_term.specs.declared.term.Terms.{Terms}
-use Rattle.iv_term.specs.declared.term.Term.TheBlock.{Nil}
-use Rattle.iv_term.specs.Typ.{prop, fun}
-use Rattle.iv_term.specs.Term.{imp, antecedent, consequent}
-use Rattle.iv_term.specs.Hyps.{union, without}
-use Rattle.iv_hsub.specs.Typing.{cod, type_of}
-use Rattle.iv_hsub.specs.Abstract.{abstract_over}
-use Rattle.iv_hsub.specs.Hhf.{one}
 use Rattle.iv_rules.specs.declared.instance.Instance.{Instance}
 use Rattle.iv_rules.specs.declared.derivation.Derivation.{Derivation}
 use Rattle.iv_rules.specs.declared.derivation.Derivation.TheBlock.{Axiom, Assume, Refl}
 use Rattle.iv_rules.specs.Derivation.{imp_intr, imp_elim, all_intr, all_elim, eq_sym, eq_trans, comb, abs, eq_intr, eq_elim, conv, inst}
-use Rattle.iv_rules.specs.Equality.{eq, lhs, rhs, side_type, IsEquation, all, predicate, app}
-use Rattle.iv_rules.specs.Instance.{instanced, instanced_hyps, AreKeysApart}
+use Rattle.iv_rules.specs.Equality.{IsEquation}
+use Rattle.iv_rules.specs.Instance.{AreKeysApart}
 use Rattle.iv_rules.specs.Conditions.{CanImpElim, CanAllIntr, CanAllElim, CanTrans, CanComb, CanAbs, CanEqIntr, CanEqElim, CanConv, CanInst}
-use Rattle.iv_rules.specs.Sequent.{Sequent, closed, IsClosed, IsProp, Gives}
+use Rattle.iv_rules.specs.Sequent.{Sequent, sequent, closed, IsClosed, IsProp, Gives}
+use Rattle.iv_rules.specs.Conclusions.{by_axiom, by_assume, by_imp_intr, by_imp_elim, by_all_intr, by_all_elim, by_refl, by_sym, by_trans, by_comb, by_abs, by_eq_intr, by_eq_elim, by_conv, by_inst}
 
 -- The rules: when r follows from the premises p and q, which are H |- .. and K |- .., under the rule's condition.
 -- A conclusion is a sequent, so what it shows is of type prop, without loose indices.
-
---   |- A
 abbrev pub FollowsByAxiom : Term → Sequent → Type 0
-FollowsByAxiom a r = Gives Nil a r
+FollowsByAxiom a r = Gives (by_axiom a) r
 
---   A |- A
 abbrev pub FollowsByAssume : Term → Sequent → Type 0
-FollowsByAssume a r = Gives (one a) a r
+FollowsByAssume a r = Gives (by_assume a) r
 
---   from H |- B: H without A |- A ==> B
+-- where A is a proposition
 abbrev pub FollowsByImpIntr : Term → Sequent → Sequent → Type 0
-FollowsByImpIntr a p r = IsProp a × Gives (without a p.hyps) (imp a p.prop) r
+FollowsByImpIntr a p r = IsProp a × Gives (by_imp_intr a p) r
 
---   from H |- A ==> B and K |- A: H and K |- B
 abbrev pub FollowsByImpElim : Sequent → Sequent → Sequent → Type 0
-FollowsByImpElim p q r = CanImpElim p.prop q.prop × Gives (union p.hyps q.hyps) (consequent p.prop) r
+FollowsByImpElim p q r = CanImpElim p.prop q.prop × Gives (by_imp_elim p q) r
 
---   from H |- B: H |- !!x. B, where x isn't free in H
 abbrev pub FollowsByAllIntr : Name → Typ → Sequent → Sequent → Type 0
-FollowsByAllIntr x a p r = CanAllIntr x a p.hyps × Gives p.hyps (all a (abstract_over x a p.prop)) r
+FollowsByAllIntr x a p r = CanAllIntr x p.hyps × Gives (by_all_intr x a p) r
 
---   from H |- !!x. B: H |- B with v for x, where v has x's type
 abbrev pub FollowsByAllElim : Term → Sequent → Sequent → Type 0
-FollowsByAllElim v p r = CanAllElim v p.prop × Gives p.hyps (app (fun (type_of no_types v) prop) (predicate p.prop) v) r
+FollowsByAllElim v p r = CanAllElim v p.prop × Gives (by_all_elim v p) r
 
---   |- v == v
 abbrev pub FollowsByRefl : Term → Sequent → Type 0
-FollowsByRefl v r = IsClosed v × Gives Nil (eq (type_of no_types v) v v) r
+FollowsByRefl v r = IsClosed v × Gives (by_refl v) r
 
---   from H |- s == t: H |- t == s
 abbrev pub FollowsBySym : Sequent → Sequent → Type 0
-FollowsBySym p r = IsEquation p.prop × Gives p.hyps (eq (side_type p.prop) (rhs p.prop) (lhs p.prop)) r
+FollowsBySym p r = IsEquation p.prop × Gives (by_sym p) r
 
---   from H |- s == t and K |- t == u: H and K |- s == u
 abbrev pub FollowsByTrans : Sequent → Sequent → Sequent → Type 0
-FollowsByTrans p q r = CanTrans p.prop q.prop × Gives (union p.hyps q.hyps) (eq (side_type p.prop) (lhs p.prop) (rhs q.prop)) r
+FollowsByTrans p q r = CanTrans p.prop q.prop × Gives (by_trans p q) r
 
---   from H |- f == g and K |- x == y, where f and g take x's type: H and K |- f x == g y
 abbrev pub FollowsByComb : Sequent → Sequent → Sequent → Type 0
-FollowsByComb p q r = CanComb p.prop q.prop
-    × Gives (union p.hyps q.hyps) (eq (cod (side_type p.prop)) (app (side_type p.prop) (lhs p.prop) (lhs q.prop)) (app (side_type p.prop) (rhs p.prop) (rhs q.prop))) r
+FollowsByComb p q r = CanComb p.prop q.prop × Gives (by_comb p q) r
 
---   from H |- s == t: H |- (%x. s) == (%x. t), where x isn't free in H
 abbrev pub FollowsByAbs : Name → Typ → Sequent → Sequent → Type 0
-FollowsByAbs x a p r = CanAbs x a p.hyps p.prop × Gives p.hyps (eq (fun a (side_type p.prop)) (abstract_over x a (lhs p.prop)) (abstract_over x a (rhs p.prop))) r
+FollowsByAbs x a p r = CanAbs x p.hyps p.prop × Gives (by_abs x a p) r
 
---   from H |- A ==> B and K |- B ==> A: H and K |- A == B
 abbrev pub FollowsByEqIntr : Sequent → Sequent → Sequent → Type 0
-FollowsByEqIntr p q r = CanEqIntr p.prop q.prop × Gives (union p.hyps q.hyps) (eq prop (antecedent p.prop) (consequent p.prop)) r
+FollowsByEqIntr p q r = CanEqIntr p.prop q.prop × Gives (by_eq_intr p q) r
 
---   from H |- A == B and K |- A: H and K |- B
 abbrev pub FollowsByEqElim : Sequent → Sequent → Sequent → Type 0
-FollowsByEqElim p q r = CanEqElim p.prop q.prop × Gives (union p.hyps q.hyps) (rhs p.prop) r
+FollowsByEqElim p q r = CanEqElim p.prop q.prop × Gives (by_eq_elim p q) r
 
---   from H |- A: H |- B, where both have one form with each !! in front
 abbrev pub FollowsByConv : Term → Sequent → Sequent → Type 0
-FollowsByConv b p r = CanConv b p.prop × Gives p.hyps b r
+FollowsByConv b p r = CanConv b p.prop × Gives (by_conv b p) r
 
---   from H |- A: both under s, where the types and free variables that s replaces aren't in H
 abbrev pub FollowsByInst : Instance → Sequent → Sequent → Type 0
-FollowsByInst s p r = AreKeysApart s × CanInst s p.hyps × Gives (instanced_hyps s p.hyps) (instanced s p.prop) r
+FollowsByInst s p r = AreKeysApart s × CanInst s p.hyps × Gives (by_inst s p) r
 
 -- a premise is concluded, and so are two
 abbrev pub From : (Sequent → Type 0) → (Sequent → Type 0) → Type 0
@@ -112,7 +89,7 @@ Concludes (inst s d) r = From (λ p. Concludes d p) (λ p. FollowsByInst s p r)
 
 -- the derivation concludes hs |- p
 abbrev pub Shows : Derivation → Terms → Term → Type 0
-Shows d hs p = Concludes d (record { hyps = hs; prop = p })
+Shows d hs p = Concludes d (sequent hs p)
 
 -- the axioms that a derivation rests on, each with its name
 unfoldable pub axioms_of : Derivation → List (List ℕ × Term)
@@ -146,6 +123,10 @@ pub record Proved : Type 0 where
   pub prop : Term
   pub derivation : Derivation
 
+-- its sequent
+abbrev pub said : Proved → Sequent
+said t = sequent t.hyps t.prop
+
 -- the derivation concludes the sequent
 abbrev pub Kept : Proved → Type 0
-Kept t = Shows t.derivation t.hyps t.prop
+Kept t = Concludes t.derivation (said t)

@@ -13,6 +13,10 @@ pub record Sequent : Type 0 where
   pub hyps : Terms
   pub prop : Term
 
+-- hs |- p
+abbrev pub sequent : Terms → Term → Sequent
+sequent hs p = record { hyps = hs; prop = p }
+
 -- a proposition that follows from nothing
 abbrev pub closed : Term → Sequent
 closed p = record { hyps = Nil; prop = p }
@@ -34,6 +38,6 @@ pub record IsSequent (r : Sequent) : Type 0 where
   pub distinct : IsDistinctTerms r.hyps
   pub prop : IsProp r.prop
 
--- r is hs |- p, which is a sequent
-abbrev pub Gives : Terms → Term → Sequent → Type 0
-Gives hs p r = (r ≡ record { hyps = hs; prop = p }) × IsSequent r
+-- r is the conclusion c, which is a sequent
+abbrev pub Gives : Sequent → Sequent → Type 0
+Gives c r = (r ≡ c) × IsSequent r

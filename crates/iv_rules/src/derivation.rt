@@ -1,6 +1,7 @@
 use crate::instance::Instance;
 use iv_shared::Shared;
-use iv_term::{Name, Term, Text, Typ};
+use iv_term::{Term, Typ};
+use iv_text::{Name, Text};
 
 /// A derivation: a tree with a rule and its arguments at each node, and a derivation for each premise.
 #[derive(Drop)]

@@ -4,11 +4,12 @@ ghost use Rattle.std.specs.List.{IsDistinct};
 ghost use Rattle.std.specs.Map.{keys_of};
 ghost use Rattle.std.specs.Option.{option_copied};
 ghost use Rattle.std.specs.Str.{bytes_eq};
-ghost use Rattle.iv_term.specs.Typ.{same_name};
-ghost use Rattle.iv_term.specs.declared.want.Want.TheVariants.{Memory};
+ghost use Rattle.iv_text.specs.Name.{same_name};
+ghost use Rattle.iv_text.specs.declared.want.Want.TheVariants.{Memory};
 ghost use Rattle.iv_rules.specs.Entries.{same_var, fixed_at, schematic_at, term_at};
 
-use iv_term::{Mem, Name, Term, Text, Typ};
+use iv_term::{Term, Typ};
+use iv_text::{Mem, Name, Text};
 use std::alloc::Global;
 use std::marker::Model;
 
@@ -72,8 +73,8 @@ impl Model for SchematicTypes {
     ghost use Rattle.std.specs.Coded.{coded×, coded_list};
     ghost use Rattle.std.specs.List.{IsDistinct};
     ghost use Rattle.std.specs.Map.{keys_of};
-    ghost use Rattle.iv_term.specs.Typ.{same_name};
-    ghost use Rattle.iv_term.specs.contracts.name.Name as a_name;
+    ghost use Rattle.iv_text.specs.Name.{same_name};
+    ghost use Rattle.iv_text.specs.contracts.name.Name as a_name;
     ghost use Rattle.iv_term.specs.contracts.typ.Typ as a_typ;
     ghost use Rattle.iv_rules.specs.Entries.{SchematicMap};
 
@@ -90,7 +91,7 @@ impl Model for VarTerms {
     ghost use Rattle.std.specs.Coded.{coded×, coded_list};
     ghost use Rattle.std.specs.List.{IsDistinct};
     ghost use Rattle.std.specs.Map.{keys_of};
-    ghost use Rattle.iv_term.specs.contracts.name.Name as a_name;
+    ghost use Rattle.iv_text.specs.contracts.name.Name as a_name;
     ghost use Rattle.iv_term.specs.contracts.typ.Typ as a_typ;
     ghost use Rattle.iv_term.specs.contracts.term.Term as a_term;
     ghost use Rattle.iv_rules.specs.Entries.{VarMap, same_var};

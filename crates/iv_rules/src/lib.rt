@@ -16,6 +16,3 @@ pub mod steps;
 
 pub use derivation::Derivation;
 pub use instance::{FixedTypes, FreeTerms, Instance, SchematicTerms, SchematicTypes, VarTerms};
-
-#[cfg(test)]
-mod tests;

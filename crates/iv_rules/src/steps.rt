@@ -2,8 +2,7 @@
 //! condition holds, its derivation concludes its sequent.
 ghost use Rattle.iv_rules.specs.Steps.{AxiomShows, AssumeShows, ImpIntrShows, ImpElimShows, AllIntrShows, AllElimShows, ReflShows, SymShows, TransShows, CombShows, AbsShows, EqIntrShows, EqElimShows, ConvShows, InstShows, InstancedIsProp, InstancedAreProps};
 
-use iv_hsub::laws::{abstraction_is_undone, substitution_gives_terms};
-use iv_put::laws::putting_gives_terms;
+use iv_hsub::laws::{abstraction_is_undone, putting_gives_terms, substitution_gives_terms};
 
 /// Axioms, assumptions, implications, and propositions of one form.
 pub fn propositions_are_shown()

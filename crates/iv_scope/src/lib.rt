@@ -10,6 +10,3 @@
 pub mod scope;
 
 pub use scope::{Binding, Bindings, ScopeName, ScopeNames};
-
-#[cfg(test)]
-mod tests;

@@ -1,8 +1,9 @@
 ghost use Rattle.std.specs.Prelude.{◌≡◌, IfOk, IfErr};
-ghost use Rattle.iv_term.specs.declared.want.Want.TheVariants.{Memory};
+ghost use Rattle.iv_text.specs.declared.want.Want.TheVariants.{Memory};
 
 use iv_list::Items;
-use iv_term::{Copied, Mem, Name, Term, Text, Typ};
+use iv_term::{Term, Typ};
+use iv_text::{Copied, Mem, Name, Text};
 
 /// A name in scope, and its type where one is known.
 #[derive(Drop)]

@@ -1,5 +1,6 @@
-pub mod Pulls
-pub mod Meanings
-pub mod Readings
-pub mod Countdowns
-pub mod Costs
+pub mod Theory
+mod Parts
+mod Binds
+mod Gatherings
+mod Readings
+mod Unfoldings

@@ -1,5 +1,5 @@
 pub mod SearchTree
 pub mod Moments
 pub mod Pull
+pub mod Unfold
 pub mod Laws
-pub mod Countdown

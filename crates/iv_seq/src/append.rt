@@ -1,9 +1,9 @@
-ghost use Rattle.std.specs.Prelude.{◌≡◌, ◌++◌, ◌⊎◌, ◌↔◌};
+ghost use Rattle.std.specs.Prelude.{◌≡◌, ◌++◌, ◌⊎◌};
 ghost use Rattle.iv_seq.specs.Pull.{Same};
 
 use crate::lazy::LazySeq;
 use crate::steps::Steps;
-use iv_term::Mem;
+use iv_text::Mem;
 use std::sync::ledger::Ledger;
 
 /// The leaves of `first`, then those of `second`.
@@ -18,7 +18,6 @@ impl<A: LazySeq, B: LazySeq<Item = A::Item>> Append<A, B> {
     pub fn new(first: A, second: B) -> Append<A, B>
         ensures search { ⟦<Append<A, B> as LazySeq>⟧.search result ≡ A.search first ++ B.search second }
         ensures fits { Same (⟦<Append<A, B> as LazySeq>⟧.fits result) (λ x. A.fits first x ⊎ B.fits second x) }
-        ensures overflows { ∥ ⟦<Append<A, B> as LazySeq>⟧.overflows result ∥₁ ↔ ∥ A.overflows first ⊎ B.overflows second ∥₁ }
     {
         Append { first, second }
     }
@@ -30,8 +29,6 @@ impl<A: LazySeq, B: LazySeq<Item = A::Item>> LazySeq for Append<A, B> {
     ghost search = { λ s. A.search s.first ++ B.search s.second };
 
     ghost fits = { λ s x. A.fits s.first x ⊎ B.fits s.second x };
-
-    ghost overflows = { λ s. A.overflows s.first ⊎ B.overflows s.second };
 
     fn pull<L: Ledger>(&mut self, steps: &mut Steps<L>) -> Mem<Option<A::Item>> {
         match self.first.pull(steps)? {

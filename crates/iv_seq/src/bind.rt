@@ -1,11 +1,12 @@
-ghost use Rattle.std.specs.Prelude.{◌≡◌, ◌+◌, ◌≤◌, ◌++◌, ◌⊎◌, ◌↔◌, [], Some, None, Ok, Err, false, true, IsSomeAnd, IfOk, IfErr, OnOk, length};
-ghost use Rattle.iv_seq.specs.Moments.{bound, branching, held, ready, MeetsSome};
-ghost use Rattle.iv_seq.specs.Pull.{Advanced, Limited, Moved, Same, Within};
+ghost use Rattle.std.specs.Prelude.{◌≡◌, ◌+◌, ◌≤◌, ◌++◌, [], Some, None, Ok, Err, false, true, IsSomeAnd, OnOk, length};
+ghost use Rattle.iv_text.specs.declared.want.Want.TheVariants.{Number};
+ghost use Rattle.iv_seq.specs.Moments.{bound, branching, held, large_first, ready};
+ghost use Rattle.iv_seq.specs.Pull.{Moved, Same, Within};
 
 use crate::follow::Follow;
 use crate::lazy::LazySeq;
 use crate::steps::Steps;
-use iv_term::Mem;
+use iv_text::Mem;
 use std::sync::ledger::Ledger;
 
 /// For each leaf of one sequence, the leaves of what a function gives for it.
@@ -28,7 +29,6 @@ impl<A: LazySeq, F: Follow<In = A::Item>> Bind<A, F> {
         requires { Within (A.fits first) (F.takes function) }
         ensures search { ⟦<Bind<A, F> as LazySeq>⟧.search result ≡ bound (A.search first) (F.means function) }
         ensures fits { Same (⟦<Bind<A, F> as LazySeq>⟧.fits result) (F.leads function) }
-        ensures overflows { ∥ ⟦<Bind<A, F> as LazySeq>⟧.overflows result ∥₁ ↔ ∥ A.overflows first ⊎ MeetsSome (F.overflows function) (A.search first) ∥₁ }
     {
         Bind {
             first,
@@ -43,8 +43,7 @@ impl<A: LazySeq, F: Follow<In = A::Item>> Bind<A, F> {
         requires { held F.Out.search self.old.branch ≡ [] }
         ensures moved { Moved (⟦<Bind<A, F> as LazySeq>⟧.search self.old) steps.old result (⟦<Bind<A, F> as LazySeq>⟧.search self.new) steps.new }
         ensures found { OnOk result (self.new.item ≡ None → A.search self.new.first ≡ []) }
-        ensures fewer { OnOk result (length (ready self.new.item ++ A.search self.new.first) ≤ length (ready self.old.item ++ A.search self.old.first)) }
-        ensures limited { Limited (⟦<Bind<A, F> as LazySeq>⟧.overflows self.old) result (⟦<Bind<A, F> as LazySeq>⟧.overflows self.new) }
+        ensures fewer { OnOk result (length (ready A.Item.seen self.new.item ++ A.search self.new.first) ≤ length (ready A.Item.seen self.old.item ++ A.search self.old.first)) }
         ensures function { self.new.function ≡ self.old.function }
         ensures branch { self.new.branch ≡ self.old.branch }
     {
@@ -60,8 +59,8 @@ impl<A: LazySeq, F: Follow<In = A::Item>> Bind<A, F> {
         requires { held F.Out.search self.old.branch ≡ [] }
         ensures search { ⟦<Bind<A, F> as LazySeq>⟧.search self.new ≡ ⟦<Bind<A, F> as LazySeq>⟧.search self.old }
         ensures last { result ≡ Ok false → self.old.item ≡ None }
-        ensures fewer { result ≡ Ok true → length (ready self.new.item) + 1 ≡ length (ready self.old.item) }
-        ensures limited { Limited (⟦<Bind<A, F> as LazySeq>⟧.overflows self.old) result (⟦<Bind<A, F> as LazySeq>⟧.overflows self.new) }
+        ensures fewer { result ≡ Ok true → length (ready A.Item.seen self.new.item) + 1 ≡ length (ready A.Item.seen self.old.item) }
+        ensures number { result ≡ Err Number → large_first (⟦<Bind<A, F> as LazySeq>⟧.search self.old) ≡ true }
         ensures function { self.new.function ≡ self.old.function }
         ensures first { self.new.first ≡ self.old.first }
     {
@@ -80,12 +79,9 @@ impl<A: LazySeq, F: Follow<In = A::Item>> Bind<A, F> {
 impl<A: LazySeq, F: Follow<In = A::Item>> LazySeq for Bind<A, F> {
     type Item = <F::Out as LazySeq>::Item;
 
-    ghost search = { λ s. branching F.Out.search (F.means s.function) s.branch s.item (A.search s.first) };
+    ghost search = { λ s. branching F.Out.search A.Item.seen (F.means s.function) s.branch s.item (A.search s.first) };
 
     ghost fits = { λ s. F.leads s.function };
-
-    ghost overflows = { λ s. IsSomeAnd s.branch (λ q. F.Out.overflows q)
-        ⊎ (A.overflows s.first ⊎ MeetsSome (F.overflows s.function) (ready s.item ++ A.search s.first)) };
 
     fn pull<L: Ledger>(&mut self, steps: &mut Steps<L>) -> Mem<Option<<F::Out as LazySeq>::Item>> {
         loop {

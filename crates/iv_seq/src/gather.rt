@@ -1,11 +1,11 @@
-ghost use Rattle.std.specs.Prelude.{◌≡◌, ◌≤◌, ◌+◌, Err, [], IfOk, OnOk};
+ghost use Rattle.std.specs.Prelude.{◌≡◌, ◌≤◌, ◌+◌, Err, [], IfOk, OnOk, true, map};
 ghost use Rattle.std.specs.List.{All};
-ghost use Rattle.iv_term.specs.declared.want.Want.TheVariants.{Number};
-ghost use Rattle.iv_seq.specs.Moments.{leaves_in, work_in};
+ghost use Rattle.iv_text.specs.declared.want.Want.TheVariants.{Number};
+ghost use Rattle.iv_seq.specs.Moments.{leaves_in, work_in, has_large};
 
 use crate::lazy::LazySeq;
 use crate::steps::Steps;
-use iv_term::Mem;
+use iv_text::Mem;
 use std::alloc::Global;
 use std::sync::ledger::Ledger;
 
@@ -17,11 +17,11 @@ pub fn gathered<S: LazySeq, L: Ledger>(
     sequence: &mut S,
     steps: &mut Steps<L>,
 ) -> Mem<Vec<S::Item>>
-    ensures leaves { IfOk result (λ found. found.items ≡ leaves_in (S.search sequence.old)) }
+    ensures leaves { IfOk result (λ found. map S.Item.seen found.items ≡ leaves_in (S.search sequence.old)) }
     ensures fits { IfOk result (λ found. All (λ x. ∥ S.fits sequence.old x ∥₁) found.items) }
     ensures over { OnOk result (S.search sequence.new ≡ []) }
     ensures cost { steps.new ≤ steps.old + work_in (S.search sequence.old) }
-    ensures number { result ≡ Err Number → ∥ S.overflows sequence.old ∥₁ }
+    ensures number { result ≡ Err Number → has_large (S.search sequence.old) ≡ true }
 {
     let mut found = Vec::new(alloc);
     while let Some(leaf) = sequence.pull(steps)? {

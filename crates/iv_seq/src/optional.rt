@@ -3,7 +3,7 @@ ghost use Rattle.iv_seq.specs.Moments.{held};
 
 use crate::lazy::LazySeq;
 use crate::steps::Steps;
-use iv_term::Mem;
+use iv_text::Mem;
 use std::sync::ledger::Ledger;
 
 /// A sequence that may be there; where there is none, no leaf comes.
@@ -13,8 +13,6 @@ impl<S: LazySeq> LazySeq for Option<S> {
     ghost search = { λ o. held S.search o };
 
     ghost fits = { λ o x. IsSomeAnd o (λ s. S.fits s x) };
-
-    ghost overflows = { λ o. IsSomeAnd o (λ s. S.overflows s) };
 
     fn pull<L: Ledger>(&mut self, steps: &mut Steps<L>) -> Mem<Option<S::Item>> {
         match self {

@@ -1,10 +1,10 @@
-ghost use Rattle.std.specs.Prelude.{◌≡◌, ◌⊎◌, ◌↔◌, false, if◌then◌else◌};
-ghost use Rattle.iv_seq.specs.Moments.{either, meets_any};
-ghost use Rattle.iv_seq.specs.Pull.{IsNeeded, Same};
+ghost use Rattle.std.specs.Prelude.{◌≡◌, ◌⊎◌, if◌then◌else◌};
+ghost use Rattle.iv_seq.specs.Moments.{either};
+ghost use Rattle.iv_seq.specs.Pull.{Same};
 
 use crate::lazy::LazySeq;
 use crate::steps::Steps;
-use iv_term::Mem;
+use iv_text::Mem;
 use std::sync::ledger::Ledger;
 
 /// The leaves of `first` where it has one, else those of `second`.
@@ -21,7 +21,6 @@ impl<A: LazySeq, B: LazySeq<Item = A::Item>> OrElse<A, B> {
     pub fn new(first: A, second: B) -> OrElse<A, B>
         ensures search { ⟦<OrElse<A, B> as LazySeq>⟧.search result ≡ either (A.search first) (B.search second) }
         ensures fits { Same (⟦<OrElse<A, B> as LazySeq>⟧.fits result) (λ x. A.fits first x ⊎ B.fits second x) }
-        ensures overflows { ∥ ⟦<OrElse<A, B> as LazySeq>⟧.overflows result ∥₁ ↔ ∥ A.overflows first ⊎ ((meets_any (A.search first) ≡ false) × B.overflows second) ∥₁ }
     {
         OrElse {
             first,
@@ -37,9 +36,6 @@ impl<A: LazySeq, B: LazySeq<Item = A::Item>> LazySeq for OrElse<A, B> {
     ghost search = { λ s. if s.chosen then A.search s.first else either (A.search s.first) (B.search s.second) };
 
     ghost fits = { λ s x. A.fits s.first x ⊎ B.fits s.second x };
-
-    ghost overflows = { λ s. A.overflows s.first
-        ⊎ (IsNeeded s.chosen (A.search s.first) × B.overflows s.second) };
 
     fn pull<L: Ledger>(&mut self, steps: &mut Steps<L>) -> Mem<Option<A::Item>> {
         if let Some(leaf) = self.first.pull(steps)? {

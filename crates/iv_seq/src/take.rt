@@ -1,10 +1,10 @@
-ghost use Rattle.std.specs.Prelude.{◌≡◌, ◌↔◌, if◌then◌else◌};
+ghost use Rattle.std.specs.Prelude.{◌≡◌, if◌then◌else◌};
 ghost use Rattle.iv_seq.specs.Moments.{cut, within};
 ghost use Rattle.iv_seq.specs.Pull.{Same};
 
 use crate::lazy::LazySeq;
 use crate::steps::Steps;
-use iv_term::Mem;
+use iv_text::Mem;
 use std::sync::ledger::Ledger;
 
 /// The first leaves of a sequence.
@@ -22,7 +22,6 @@ impl<A: LazySeq> Take<A> {
     pub fn new(inner: A, count: u32) -> Take<A>
         ensures search { ⟦<Take<A> as LazySeq>⟧.search result ≡ cut count (A.search inner) }
         ensures fits { Same (⟦<Take<A> as LazySeq>⟧.fits result) (A.fits inner) }
-        ensures overflows { ∥ ⟦<Take<A> as LazySeq>⟧.overflows result ∥₁ ↔ ∥ A.overflows inner ∥₁ }
     {
         Take {
             inner,
@@ -38,8 +37,6 @@ impl<A: LazySeq> LazySeq for Take<A> {
     ghost search = { λ s. if s.closed then within s.left (A.search s.inner) else cut s.left (A.search s.inner) };
 
     ghost fits = { λ s. A.fits s.inner };
-
-    ghost overflows = { λ s. A.overflows s.inner };
 
     fn pull<L: Ledger>(&mut self, steps: &mut Steps<L>) -> Mem<Option<A::Item>> {
         if self.left == 0 {

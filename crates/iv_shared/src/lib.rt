@@ -8,6 +8,3 @@
 pub mod shared;
 
 pub use shared::Shared;
-
-#[cfg(test)]
-mod tests;

@@ -12,7 +12,8 @@ use crate::fixity::Fixity;
 use crate::pure::is_pure;
 use crate::sig::Sig;
 use crate::symbols::{is_delimiter, is_symbol};
-use iv_term::{Term, Text, Typ};
+use iv_term::{Term, Typ};
+use iv_text::Text;
 use std::alloc::Global;
 
 impl Sig {

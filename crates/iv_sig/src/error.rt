@@ -1,4 +1,4 @@
-use iv_term::{Text, Want};
+use iv_text::{Text, Want};
 
 /// Why something isn't declared.
 #[derive(Drop)]

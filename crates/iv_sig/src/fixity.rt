@@ -1,8 +1,8 @@
 ghost use Rattle.std.specs.Prelude.{◌≡◌, IfOk, IfErr};
-ghost use Rattle.iv_term.specs.declared.want.Want.TheVariants.{Memory};
+ghost use Rattle.iv_text.specs.declared.want.Want.TheVariants.{Memory};
 ghost use Rattle.iv_sig.specs.Fixity.{symbol_of, are_priorities};
 
-use iv_term::{Copied, Mem, Text};
+use iv_text::{Copied, Mem, Text};
 
 /// How a constant is written: by a symbol, at a priority. The symbol is kept as it is printed.
 #[derive(Drop)]

@@ -23,6 +23,3 @@ pub use fixity::Fixity;
 pub use notations::Notations;
 pub use sig::{Axioms, Sig};
 pub use table::Table;
-
-#[cfg(test)]
-mod tests;

@@ -5,14 +5,14 @@ ghost use Rattle.std.specs.Map.{keys_of};
 ghost use Rattle.std.specs.Map.Iter.{deref_pair};
 ghost use Rattle.std.specs.Option.{option_copied, option_map};
 ghost use Rattle.std.specs.Str.{bytes_eq};
-ghost use Rattle.iv_term.specs.declared.want.Want.TheVariants.{Memory};
+ghost use Rattle.iv_text.specs.declared.want.Want.TheVariants.{Memory};
 ghost use Rattle.iv_sig.specs.Fixity.{symbol_of};
 ghost use Rattle.iv_sig.specs.Signature.{by_symbol};
 ghost use Rattle.iv_sig.specs.Table.{look};
 
 use crate::fixity::Fixity;
 use crate::table::Table;
-use iv_term::{Copied, Mem, Text};
+use iv_text::{Copied, Mem, Text};
 use std::alloc::Global;
 use std::marker::Model;
 

@@ -1,11 +1,12 @@
 //! What there is before anything is declared.
 ghost use Rattle.std.specs.Prelude.{◌≡◌, IfOk, IfErr};
-ghost use Rattle.iv_term.specs.declared.want.Want.TheVariants.{Memory};
+ghost use Rattle.iv_text.specs.declared.want.Want.TheVariants.{Memory};
 ghost use Rattle.iv_sig.specs.Signature.{open_a, pure_types, pure_consts, is_pure};
 
 use crate::table::Table;
 use iv_hsub::constants::{all_typ, eq_typ};
-use iv_term::{Mem, Name, Text, Typ};
+use iv_term::Typ;
+use iv_text::{Mem, Name, Text};
 use std::alloc::Global;
 
 /// The type variable `?'a`.

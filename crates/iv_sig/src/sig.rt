@@ -2,7 +2,7 @@
 ghost use Rattle.std.specs.Prelude.{◌≡◌, ◌<◌, [], ◌∷◌, ◌++◌, None, Some, length, is_some, slice_get, All, IfSome, IfOk, IfErr, OnOk, OnErr};
 ghost use Rattle.std.specs.Map.Iter.{deref_pair};
 ghost use Rattle.std.specs.Option.{option_copied, option_map};
-ghost use Rattle.iv_term.specs.declared.want.Want.TheVariants.{Memory};
+ghost use Rattle.iv_text.specs.declared.want.Want.TheVariants.{Memory};
 ghost use Rattle.iv_sig.specs.Conditions.{IsAxiom};
 ghost use Rattle.iv_sig.specs.Kept.{IsJudgment, IsSignature, NamesDiffer};
 ghost use Rattle.iv_sig.specs.Signature.{pure, by_symbol, is_there};
@@ -12,7 +12,8 @@ use crate::fixity::Fixity;
 use crate::notations::Notations;
 use crate::pure::{pure_consts, pure_types};
 use crate::table::Table;
-use iv_term::{Mem, Term, Text, Typ};
+use iv_term::{Term, Typ};
+use iv_text::{Mem, Text};
 use std::alloc::Global;
 use std::marker::Model;
 

@@ -4,7 +4,7 @@ ghost use Rattle.std.specs.List.{list_any};
 ghost use Rattle.std.specs.Str.{bytes_eq};
 ghost use Rattle.iv_sig.specs.Fixity.{is_symbol, is_barred, is_delimiter};
 
-use iv_term::Text;
+use iv_text::Text;
 
 /// Whether a character is a blank or `_`.
 fn is_barred(c: char) -> bool

@@ -4,11 +4,11 @@ ghost use Rattle.std.specs.List.{IsDistinct};
 ghost use Rattle.std.specs.Map.{keys_of};
 ghost use Rattle.std.specs.Option.{option_copied};
 ghost use Rattle.std.specs.Str.{bytes_eq};
-ghost use Rattle.iv_term.specs.declared.want.Want.TheVariants.{Memory};
+ghost use Rattle.iv_text.specs.declared.want.Want.TheVariants.{Memory};
 ghost use Rattle.iv_sig.specs.Table.{look};
 
 use indexmap::IndexMap;
-use iv_term::{Copied, Mem, Text};
+use iv_text::{Copied, Mem, Text};
 use std::alloc::Global;
 use std::marker::Model;
 

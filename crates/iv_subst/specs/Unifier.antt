@@ -1,11 +1,12 @@
 -- Unification of types (Robinson 1965; most general unifiers as in Martelli and Montanari 1982).
 use Rattle.std.specs.Prelude.{false, ◌≡◌, ℕ, zero, suc, if◌then◌else◌, List, [], ◌∷◌, ◌++◌, length, Option, Some, None}
 use Rattle.std.specs.Str.{bytes_eq}
-use Rattle.iv_term.specs.declared.name.Name.{Name}
+use Rattle.iv_text.specs.declared.name.Name.{Name}
 use Rattle.iv_term.specs.declared.typ.Typ.{Typ}
 use Rattle.iv_term.specs.declared.typ.Types.{Types}
 use Rattle.iv_term.specs.declared.typ.Typ.TheBlock.{Con, Fixed, Schematic, Nil}
-use Rattle.iv_term.specs.Typ.{ty_cons, same_name}
+use Rattle.iv_term.specs.Typ.{ty_cons}
+use Rattle.iv_text.specs.Name.{same_name}
 use Rattle.iv_subst.specs.TySubst.{put_typ, single, occurs, TyMap, at, composed, assign, IsIdempotent}
 
 -- f makes both types equal

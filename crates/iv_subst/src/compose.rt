@@ -1,12 +1,12 @@
 ghost use Rattle.std.specs.Prelude.{◌≡◌, ◌++◌, IfOk, IfErr, OnOk};
 ghost use Rattle.std.specs.List.{IsDistinct};
 ghost use Rattle.std.specs.Map.{keys_of};
-ghost use Rattle.iv_term.specs.Typ.{same_name};
-ghost use Rattle.iv_term.specs.declared.want.Want.TheVariants.{Memory};
+ghost use Rattle.iv_text.specs.Name.{same_name};
+ghost use Rattle.iv_text.specs.declared.want.Want.TheVariants.{Memory};
 ghost use Rattle.iv_subst.specs.TySubst.{at, under, unhidden, composed};
 
 use crate::ty_subst::TySubst;
-use iv_term::Mem;
+use iv_text::Mem;
 use std::alloc::Global;
 
 impl TySubst {

@@ -6,7 +6,8 @@ ghost use Rattle.iv_subst.specs.TySubst.{put_typ, put_typs, occurs, occurs_any, 
 ghost use Rattle.iv_subst.specs.Solved.{solved, AreSolved, IsHead, link};
 
 use crate::ty_subst::TySubst;
-use iv_term::{Name, Typ, Types};
+use iv_term::{Typ, Types};
+use iv_text::Name;
 
 /// The type that a type is under assignments, as far as its head: variables are followed, and no type is made.
 pub(crate) fn head<'a>(es: &'a TySubst, typ: &'a Typ) -> &'a Typ

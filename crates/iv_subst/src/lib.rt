@@ -22,6 +22,3 @@ mod unify;
 pub use no_unify::NoUnify;
 pub use solved::{Solved, unify_types};
 pub use ty_subst::TySubst;
-
-#[cfg(test)]
-mod tests;

@@ -1,4 +1,4 @@
-use iv_term::Want;
+use iv_text::Want;
 
 /// Why two types weren't unified.
 #[derive(Clone, Copy, Debug, PartialEq, Eq)]

@@ -3,13 +3,14 @@
 ghost use Rattle.std.specs.Prelude.{◌≡◌, ◌⊎◌, [], ◌∷◌, ◌++◌, Some, IfOk, IfErr, OnOk};
 ghost use Rattle.std.specs.Map.{keys_of};
 ghost use Rattle.iv_term.specs.declared.typ.Typ.TheBlock.{Schematic};
-ghost use Rattle.iv_term.specs.declared.want.Want.TheVariants.{Memory};
+ghost use Rattle.iv_text.specs.declared.want.Want.TheVariants.{Memory};
 ghost use Rattle.iv_subst.specs.TySubst.{put_typ, put_typs, occurs, occurs_any, seek, at};
 ghost use Rattle.iv_subst.specs.Solved.{solved, AreSolved, AreFree};
 
 use crate::ty_subst::TySubst;
 use iv_map::NameMap;
-use iv_term::{Mem, Name, Typ, Types};
+use iv_term::{Typ, Types};
+use iv_text::{Mem, Name};
 use std::alloc::Global;
 
 /// Whether a variable stands in a type under assignments. Fails where memory runs out.

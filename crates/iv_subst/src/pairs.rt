@@ -3,7 +3,7 @@
 ghost use Rattle.std.specs.Prelude.{◌≡◌, ◌<◌, [], ◌∷◌, ◌++◌, None, IfOk, IfErr, OnOk};
 ghost use Rattle.iv_term.specs.Typ.{ty_cons};
 ghost use Rattle.iv_term.specs.declared.typ.Typ.TheBlock.{Nil};
-ghost use Rattle.iv_term.specs.declared.want.Want.TheVariants.{Memory};
+ghost use Rattle.iv_text.specs.declared.want.Want.TheVariants.{Memory};
 ghost use Rattle.iv_subst.specs.declared.no_unify.NoUnify.TheVariants.{Clash};
 ghost use Rattle.iv_subst.specs.declared.pairs.Step.TheVariants.{Clash as step_clash};
 ghost use Rattle.iv_subst.specs.TySubst.{at};
@@ -14,7 +14,8 @@ ghost use Rattle.iv_subst.specs.Pairs.{IsStep, pairs_differ, weight, step_of, op
 use crate::heads::head;
 use crate::no_unify::NoUnify;
 use crate::ty_subst::TySubst;
-use iv_term::{Mem, Name, Typ, Types};
+use iv_term::{Typ, Types};
+use iv_text::{Mem, Name};
 use std::alloc::Global;
 
 /// What two types ask for, seen by their heads.

@@ -2,14 +2,15 @@
 
 ghost use Rattle.std.specs.Prelude.{◌≡◌, IfOk, IfErr};
 ghost use Rattle.std.specs.Option.{unwrap_or};
-ghost use Rattle.iv_term.specs.declared.want.Want.TheVariants.{Memory};
+ghost use Rattle.iv_text.specs.declared.want.Want.TheVariants.{Memory};
 ghost use Rattle.iv_subst.specs.TySubst.{put_typ, put_typs, at};
 ghost use Rattle.iv_subst.specs.Solved.{solved, AreSolved};
 
-use crate::apply::{with_args, with_parts};
 use crate::heads::head;
 use crate::ty_subst::TySubst;
-use iv_term::{Mem, Typ, Types, new_or_copy};
+use iv_term::changed_typ::{with_args, with_parts};
+use iv_term::{Typ, Types};
+use iv_text::{Mem, new_or_copy};
 use std::alloc::Global;
 
 /// The type under assignments, or `None` where it stays.

@@ -1,8 +1,8 @@
 ghost use Rattle.std.specs.Prelude.{◌≡◌, [], Some, None, IfOk, IfErr, OnOk};
-ghost use Rattle.iv_term.specs.declared.name.Name.{Name};
+ghost use Rattle.iv_text.specs.declared.name.Name.{Name};
 ghost use Rattle.iv_term.specs.declared.typ.Typ.{Typ};
 ghost use Rattle.iv_term.specs.declared.typ.Typ.TheBlock.{Schematic};
-ghost use Rattle.iv_term.specs.declared.want.Want.TheVariants.{Memory};
+ghost use Rattle.iv_text.specs.declared.want.Want.TheVariants.{Memory};
 ghost use Rattle.iv_subst.specs.declared.no_unify.NoUnify.TheVariants.{Clash};
 ghost use Rattle.iv_subst.specs.TySubst.{put_typ, occurs, at};
 ghost use Rattle.iv_subst.specs.Unifier.{IsUnifier, IsSolved, unified, unified_under};
@@ -13,7 +13,8 @@ use crate::no_unify::NoUnify;
 use crate::puts::{replaced, spread};
 use crate::ty_subst::TySubst;
 use crate::unify::unify;
-use iv_term::{Mem, Name as VarName, Typ, new_or_copy};
+use iv_term::Typ;
+use iv_text::{Mem, Name as VarName, new_or_copy};
 use std::alloc::Global;
 use std::marker::Model;
 

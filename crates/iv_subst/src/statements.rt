@@ -1,7 +1,7 @@
 //! Laws that proofs above this crate call.
 
 ghost use Rattle.std.specs.Prelude.{◌≡◌, true, false};
-ghost use Rattle.iv_term.specs.declared.name.Name.{Name};
+ghost use Rattle.iv_text.specs.declared.name.Name.{Name};
 ghost use Rattle.iv_term.specs.declared.typ.Typ.{Typ};
 ghost use Rattle.iv_subst.specs.TySubst.{TyMap, put_typ, then_put, at, has, composed, occurs};
 

@@ -2,12 +2,13 @@ ghost use Rattle.std.specs.Prelude.{◌≡◌, [], ◌∷◌, ◌++◌, None, So
 ghost use Rattle.std.specs.List.{IsDistinct};
 ghost use Rattle.std.specs.Map.{keys_of};
 ghost use Rattle.std.specs.Option.{option_copied};
-ghost use Rattle.iv_term.specs.Typ.{same_name};
-ghost use Rattle.iv_term.specs.declared.want.Want.TheVariants.{Memory};
+ghost use Rattle.iv_text.specs.Name.{same_name};
+ghost use Rattle.iv_text.specs.declared.want.Want.TheVariants.{Memory};
 ghost use Rattle.iv_subst.specs.TySubst.{seek, has};
 
 use iv_map::NameMap;
-use iv_term::{Mem, Name, Typ};
+use iv_term::Typ;
+use iv_text::{Mem, Name};
 use std::alloc::Global;
 use std::marker::Model;
 
@@ -20,7 +21,7 @@ pub struct TySubst {
 
 impl Model for TySubst {
     ghost use Rattle.std.specs.Coded.{codes};
-    ghost use Rattle.iv_term.specs.contracts.name.Name as a_name;
+    ghost use Rattle.iv_text.specs.contracts.name.Name as a_name;
     ghost use Rattle.iv_term.specs.contracts.typ.Typ as a_typ;
     ghost use Rattle.iv_subst.specs.TySubst.{TyMap};
 

@@ -1,4 +1,3 @@
 pub mod Typ
 pub mod Term
 pub mod Hyps
-pub mod Key

@@ -2,7 +2,8 @@
 use Rattle.std.specs.Prelude.{◌≡◌, Bool, true, false, ◌&&◌, ◌||◌, nat_eq, codes, refl}
 use Rattle.std.specs.Str.{bytes_eq}
 use denote.Hole.Carrier.{hidden}
-use Rattle.iv_term.specs.declared.name.Name.{Name}
+use Rattle.iv_text.specs.Name.{same_name}
+use Rattle.iv_text.specs.declared.name.Name.{Name}
 use Rattle.iv_term.specs.declared.typ.Typ.{Typ}
 use Rattle.iv_term.specs.declared.term.Head.{Head}
 use Rattle.iv_term.specs.declared.term.Head.TheVariants.{Const, Free, Schematic, Bound}
@@ -11,7 +12,7 @@ use Rattle.iv_term.specs.declared.term.Term.TheVariants.{Abs}
 use Rattle.iv_term.specs.declared.term.Terms.{Terms}
 use Rattle.iv_term.specs.declared.term.Terms.TheVariants.{Cons}
 use Rattle.iv_term.specs.declared.term.Term.TheBlock.{Abs', Spine, Nil, Cons', end_of-Term, more_of-Term, end_of-Terms, more_of-Terms, shape-the_row-Term-0, hidden-the_row-Term-0, shape-the_row-Terms-1, hidden-the_row-Terms-1}
-use Rattle.iv_term.specs.Typ.{prop, fun, same_name, same_typ}
+use Rattle.iv_term.specs.Typ.{prop, fun, same_typ}
 
 -- an abstraction, and a list of terms with one in front: as patterns, and as what they are
 pattern abbrev pub lam : Typ → Term → Term

@@ -1,8 +1,8 @@
 -- Simple types (Reference Manual, Pure).
-use Rattle.std.specs.Prelude.{◌≡◌, Bool, true, false, ◌&&◌, nat_eq, codes, refl}
+use Rattle.std.specs.Prelude.{◌≡◌, Bool, true, false, ◌&&◌, codes, refl}
 use Rattle.std.specs.Str.{bytes_eq}
 use denote.Hole.Carrier.{hidden}
-use Rattle.iv_term.specs.declared.name.Name.{Name}
+use Rattle.iv_text.specs.Name.{same_name}
 use Rattle.iv_term.specs.declared.typ.Typ.{Typ}
 use Rattle.iv_term.specs.declared.typ.Types.{Types}
 use Rattle.iv_term.specs.declared.typ.Types.TheVariants.{Cons}
@@ -23,10 +23,6 @@ prop = Con (codes "prop") Nil
 -- the type of functions from a to b
 abbrev pub fun : Typ → Typ → Typ
 fun a b = Con (codes "fun") (ty_cons a (ty_cons b Nil))
-
--- whether two names are the same
-abbrev pub same_name : Name → Name → Bool
-same_name x y = bytes_eq x.text y.text && nat_eq x.number y.number
 
 unfoldable mutual
   -- whether two types are the same

@@ -1,9 +1,9 @@
 ghost use Rattle.std.specs.Prelude.{◌≡◌};
 ghost use Rattle.iv_term.specs.Term.{has_free, any_has_free, is_free};
 
-use crate::name::Name;
 use crate::term::{Head, Term, Terms};
 use crate::typ::Typ;
+use iv_text::Name;
 
 impl Head {
     /// Whether it is the free variable of this name and type. Takes no memory.

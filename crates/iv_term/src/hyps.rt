@@ -1,11 +1,11 @@
 ghost use Rattle.std.specs.Prelude.{◌≡◌, IfOk, IfErr};
 ghost use Rattle.iv_term.specs.Hyps.{among, snoc, added, union, without};
 ghost use Rattle.iv_term.specs.Term.{tm_cons};
-ghost use Rattle.iv_term.specs.declared.want.Want.TheVariants.{Memory};
+ghost use Rattle.iv_text.specs.declared.want.Want.TheVariants.{Memory};
 ghost use Rattle.iv_term.specs.declared.term.Term.TheBlock.{Nil};
 
 use crate::term::{Term, Terms};
-use crate::want::Mem;
+use iv_text::Mem;
 use std::alloc::Global;
 
 impl Terms {

@@ -1,14 +1,13 @@
 ghost use Rattle.std.specs.Prelude.{◌≡◌, IfOk, IfErr, IsTrue, ◌↔◌, codes};
 ghost use Rattle.iv_term.specs.Typ.{prop, fun, ty_cons};
 ghost use Rattle.iv_term.specs.Term.{imp, imp_head, implies, is_nil, is_one, are_two, first_or, rest_of, antecedent, consequent, IsImplication};
-ghost use Rattle.iv_term.specs.declared.want.Want.TheVariants.{Memory};
+ghost use Rattle.iv_text.specs.declared.want.Want.TheVariants.{Memory};
 ghost use Rattle.iv_term.specs.declared.typ.Typ.TheBlock.{Nil};
 ghost use Rattle.iv_term.specs.declared.term.Term.TheBlock.{Nil as no_terms};
 
 use crate::term::{Head, Term, Terms};
-use crate::text::Text;
 use crate::typ::{Typ, Types};
-use crate::want::Mem;
+use iv_text::{Mem, Text};
 use std::alloc::Global;
 
 impl Types {

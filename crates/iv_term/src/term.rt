@@ -1,12 +1,10 @@
 ghost use Rattle.std.specs.Prelude.{◌≡◌, IfOk, IfErr, IsTrue, ◌↔◌};
 ghost use Rattle.iv_term.specs.Term.{tm_cons, same_term};
-ghost use Rattle.iv_term.specs.declared.want.Want.TheVariants.{Memory};
+ghost use Rattle.iv_text.specs.declared.want.Want.TheVariants.{Memory};
 
-use crate::name::Name;
-use crate::text::Text;
 use crate::typ::Typ;
-use crate::want::Mem;
 use iv_shared::Shared;
+use iv_text::{Mem, Name, Text};
 use std::alloc::Global;
 
 /// What stands at the head of an application.

@@ -1,11 +1,9 @@
 ghost use Rattle.std.specs.Prelude.{◌≡◌, IfOk, IfErr, IsTrue, ◌↔◌};
 ghost use Rattle.iv_term.specs.Typ.{prop, fun, ty_cons, same_typ};
-ghost use Rattle.iv_term.specs.declared.want.Want.TheVariants.{Memory};
+ghost use Rattle.iv_text.specs.declared.want.Want.TheVariants.{Memory};
 
-use crate::name::Name;
-use crate::text::Text;
-use crate::want::Mem;
 use iv_shared::Shared;
+use iv_text::{Mem, Name, Text};
 use std::alloc::Global;
 
 /// A type.

@@ -8,6 +8,3 @@
 pub mod words;
 
 pub use words::{BadWords, Task, task_given};
-
-#[cfg(test)]
-mod tests;

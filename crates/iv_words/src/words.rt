@@ -1,11 +1,11 @@
 ghost use Rattle.std.specs.Prelude.{◌≡◌, ◌≢◌, ◌∷◌, [], List, map, codes, string_bytes, option_map, IfOk, Err, Some, None};
 ghost use Rattle.clap.specs.Words.{app_of, kind_of};
-ghost use Rattle.iv_term.specs.declared.want.Want.TheVariants.{Memory};
+ghost use Rattle.iv_text.specs.declared.want.Want.TheVariants.{Memory};
 ghost use Rattle.iv_words.specs.Words.{isarvm, task_on, task_of, task_named};
 
 use clap::error::ErrorKind;
 use clap::{Arg, ArgAction, Command, Error};
-use iv_term::{Mem, Want};
+use iv_text::{Mem, Want};
 use std::alloc::{AllocError, Global};
 
 /// What the program is asked to do.

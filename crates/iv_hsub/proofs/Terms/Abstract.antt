@@ -1,7 +1,7 @@
 -- Abstraction over a free variable gives a function of that type, which at the variable is the term.
 use Rattle.std.proofs.Common.{◌≡◌, ℕ, suc, ◌<◌, Bool, true, false, not, ◌&&◌, ◌||◌, ◌⊎◌, inl, inr, if◌then◌else◌, refl, sym, ◌∙◌, ap, subst, arith}
 use Rattle.std.proofs.lemmas.Bool.{and_parts}
-use Rattle.iv_term.specs.declared.name.Name.{Name}
+use Rattle.iv_text.specs.declared.name.Name.{Name}
 use Rattle.iv_term.specs.declared.typ.Typ.{Typ}
 use Rattle.iv_term.specs.declared.typ.Types.{Types}
 use Rattle.iv_term.specs.declared.typ.Typ.TheBlock.{Nil as no_types}
@@ -10,9 +10,11 @@ use Rattle.iv_term.specs.declared.term.Head.TheVariants.{Const, Free, Schematic,
 use Rattle.iv_term.specs.declared.term.Term.{Term}
 use Rattle.iv_term.specs.declared.term.Terms.{Terms}
 use Rattle.iv_term.specs.declared.term.Term.TheBlock.{Spine, Nil}
-use Rattle.iv_term.specs.Typ.{fun, ty_cons, same_name, same_typ}
+use Rattle.iv_term.specs.Typ.{fun, ty_cons, same_typ}
+use Rattle.iv_text.specs.Name.{same_name}
 use Rattle.iv_term.specs.Term.{lam, tm_cons, is_nil, is_free}
-use Rattle.iv_term.proofs.Laws.Same.{same_name-true, same_typ-true}
+use Rattle.iv_term.proofs.Laws.Same.{same_typ-true}
+use Rattle.iv_text.proofs.Same.{same_name-true}
 use Rattle.iv_hsub.specs.Typing.{cod, types_len, head_type, result_type, type_of, IsHead, IsTerm, AreArgs, join}
 use Rattle.iv_hsub.specs.Index.{raise_head, raise, is_bound, occurs, occurs_in, is_index_0, ends_in_0, front, contracts, eta}
 use Rattle.iv_hsub.specs.Hsub.{append, put_head, put, put_all, happ}

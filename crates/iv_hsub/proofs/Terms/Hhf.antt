@@ -12,7 +12,8 @@ use Rattle.iv_term.specs.declared.term.Terms.{Terms}
 use Rattle.iv_term.specs.declared.term.Term.TheBlock.{Spine, Nil}
 use Rattle.iv_term.specs.Typ.{prop, fun, ty_cons, same_typ}
 use Rattle.iv_term.specs.Term.{lam, tm_cons, implies, imp_head, imp, is_nil, is_one, are_two}
-use Rattle.iv_term.proofs.Laws.Same.{same_text-true, same_typ-true}
+use Rattle.iv_term.proofs.Laws.Same.{same_typ-true}
+use Rattle.iv_text.proofs.Same.{same_text-true}
 use Rattle.iv_hsub.specs.Typing.{dom, cod, types_len, type_at, head_type, result_type, type_of, IsTerm, AreArgs, join}
 use Rattle.iv_hsub.specs.Index.{index, raise_head, raise, raise_all, contracts, eta}
 use Rattle.iv_hsub.specs.Hsub.{append}

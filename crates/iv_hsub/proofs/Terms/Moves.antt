@@ -11,7 +11,8 @@ use Rattle.iv_term.specs.declared.term.Terms.{Terms}
 use Rattle.iv_term.specs.declared.term.Term.TheBlock.{Spine, Nil}
 use Rattle.iv_term.specs.Typ.{prop, fun, same_typ}
 use Rattle.iv_term.specs.Term.{lam, tm_cons, implies, imp_head, first_or, rest_of, are_two, antecedent, consequent, IsImplication}
-use Rattle.iv_term.proofs.Laws.Same.{same_text-same, same_typ-same, same_typ-Decides}
+use Rattle.iv_term.proofs.Laws.Same.{same_typ-same, same_typ-Decides}
+use Rattle.iv_text.proofs.Same.{same_text-same}
 use Rattle.iv_term.proofs.Laws.Tests.{are_two-parts, spine-parts}
 use Rattle.iv_hsub.specs.Typing.{dom, cod}
 use Rattle.iv_hsub.specs.Index.{contracts, eta}

@@ -1,7 +1,7 @@
 -- Where one of some numbers is too great, and what a `?` hands on of it.
 use Rattle.std.proofs.Common.{◌≡◌, ℕ, List, [], ◌∷◌, ◌++◌, inl, inr, Result, Ok, Err, IsErrAnd, IfErr, sym, ◌∙◌}
-use Rattle.iv_term.specs.declared.want.Want.{Want}
-use Rattle.iv_term.specs.declared.want.Want.TheVariants.{Number}
+use Rattle.iv_text.specs.declared.want.Want.{Want}
+use Rattle.iv_text.specs.declared.want.Want.TheVariants.{Number}
 use Rattle.iv_hsub.specs.Made.{IsPast}
 
 pub past-left : (ns ms : List ℕ) → IsPast ns → IsPast (ns ++ ms)

@@ -3,9 +3,9 @@ use Rattle.std.proofs.Common.{◌≡◌, ℕ, Bool, true, false, if◌then◌els
 use Rattle.std.specs.List.{IsDistinct}
 use Rattle.std.specs.Map.{keys_of}
 use Rattle.std.proofs.lemmas.List.{map-append}
-use Rattle.iv_term.specs.declared.name.Name.{Name}
+use Rattle.iv_text.specs.declared.name.Name.{Name}
 use Rattle.iv_term.specs.declared.term.Term.{Term}
-use Rattle.iv_term.specs.Typ.{same_name}
+use Rattle.iv_text.specs.Name.{same_name}
 use Rattle.iv_map.specs.NameMap.{look}
 use Rattle.iv_map.proofs.Entries.{new-name, among, others, apart-others}
 use Rattle.iv_subst.proofs.Laws.Entries.{drop-at}

@@ -3,8 +3,8 @@ use Rattle.std.proofs.Common.{◌≡◌, List, ℕ, Option, IfOk, sym, ◌∙◌
 use Rattle.std.specs.Option.{unwrap_or}
 use Rattle.std.specs.Prelude.{Result}
 use Rattle.std.proofs.lemmas.Result.{IfOk-weaker}
-use Rattle.iv_term.specs.declared.want.Want.{Want}
-use Rattle.iv_term.specs.declared.name.Name.{Name}
+use Rattle.iv_text.specs.declared.want.Want.{Want}
+use Rattle.iv_text.specs.declared.name.Name.{Name}
 use Rattle.iv_term.specs.declared.typ.Typ.{Typ}
 use Rattle.iv_term.specs.declared.term.Head.{Head}
 use Rattle.iv_term.specs.declared.term.Head.TheVariants.{Const, Free, Schematic}
@@ -14,7 +14,7 @@ use Rattle.iv_term.specs.declared.term.Term.TheBlock.{Spine}
 use Rattle.iv_term.specs.Term.{lam, tm_cons}
 use Rattle.iv_hsub.specs.Index.{eta}
 use Rattle.iv_subst.specs.TySubst.{TyMap, put_typ, at}
-use Rattle.iv_put.specs.Retype.{map_typ}
+use Rattle.iv_hsub.specs.Retype.{map_typ}
 use Rattle.iv_put.specs.Subst.{by_map}
 use Rattle.iv_put.proofs.Facts.Entries.{map-by}
 

@@ -1,6 +1,6 @@
 -- Types and terms put one substitution after the other are one substitution: the law over functions of names.
 use Rattle.std.proofs.Common.{◌≡◌, Bool, true, false, Option, Some, None, if◌then◌else◌, refl, sym, ◌∙◌, ap, subst}
-use Rattle.iv_term.specs.declared.name.Name.{Name}
+use Rattle.iv_text.specs.declared.name.Name.{Name}
 use Rattle.iv_term.specs.declared.typ.Typ.{Typ}
 use Rattle.iv_term.specs.declared.typ.Types.{Types}
 use Rattle.iv_term.specs.declared.typ.Typ.TheBlock.{Nil as no_types}
@@ -14,12 +14,12 @@ use Rattle.iv_term.specs.Term.{lam, tm_cons}
 use Rattle.iv_term.proofs.Laws.Same.{same_typ-true, same_typ-same}
 use Rattle.iv_hsub.specs.Typing.{cod, head_type, type_of, IsTerm, AreArgs, HasType}
 use Rattle.iv_hsub.specs.Index.{eta}
-use Rattle.iv_put.specs.Retype.{map_typ, map_typs, retype_head, retype, retype_all}
-use Rattle.iv_put.specs.Inst.{use_value, inst_head, inst, inst_all, HeadVars, Vars, AllVars, Fits}
+use Rattle.iv_hsub.specs.Retype.{map_typ, map_typs, retype_head, retype, retype_all}
+use Rattle.iv_hsub.specs.Inst.{use_value, inst_head, inst, inst_all, HeadVars, Vars, AllVars, Fits}
 use Rattle.iv_put.specs.Subst.{by_name}
-use Rattle.iv_put.proofs.Facts.Retype.{retype-eta, retype-term, retype-has}
+use Rattle.iv_hsub.proofs.Terms.Retype.{retype-eta, retype-term, retype-has}
 use Rattle.iv_put.proofs.Facts.RetypeUse.{retype-happ}
-use Rattle.iv_put.proofs.Facts.Inst.{closed-has, inst-term, inst-args, Typed}
+use Rattle.iv_hsub.proofs.Terms.Inst.{closed-has, inst-term, inst-args, Typed}
 use Rattle.iv_put.proofs.Facts.Vars.{Brings, inst-vars}
 use Rattle.iv_put.proofs.Facts.InstUse.{then_value, then_inst, inst-inst}
 

@@ -16,8 +16,8 @@ use Rattle.iv_hsub.specs.Hsub.{append, put_head, put, put_all, happ}
 use Rattle.iv_hsub.proofs.Terms.Base.{type_at-here, fun_induction}
 use Rattle.iv_hsub.proofs.Terms.Put.{happ-nil, happ-spine, happ-lam, put-low, put-here, put-high, index_cases, put-term, put-args, happ-good, Has, lam-type}
 use Rattle.iv_hsub.proofs.Terms.Commute.{raised-type, put-eta, both, Uses, happ-append, happ-eta}
-use Rattle.iv_put.specs.Inst.{use_value, inst_head, inst, inst_all, Fits}
-use Rattle.iv_put.proofs.Facts.Inst.{closed-has, put-none, result-inst, inst_all-append, Typed, typed-term, typed-args, inst-raise, inst-eta}
+use Rattle.iv_hsub.specs.Inst.{use_value, inst_head, inst, inst_all, Fits}
+use Rattle.iv_hsub.proofs.Terms.Inst.{closed-has, put-none, result-inst, inst_all-append, Typed, typed-term, typed-args, inst-raise, inst-eta}
 
 -- a variable that a value may be put for, under substitution for an index
 pub use_value-put : (a : Typ) (bs : Types) (v : Term) → HasType bs a v → (es : Types) (o : Option Term) (h : Head) (c : Typ) (us : Terms) → Fits o c

@@ -1,7 +1,7 @@
 -- What the loops over a substitution's terms keep.
 use Rattle.std.proofs.Common.{◌≡◌, ℕ, true, false, [], ◌∷◌, ◌++◌, Some, ◌≤◌, ◌+◌, length, drop, slice_get, refl, sym, ◌∙◌, ap, subst}
 use Rattle.std.proofs.lemmas.List.{append_assoc, append-nil, drop_all}
-use Rattle.iv_term.specs.declared.name.Name.{Name}
+use Rattle.iv_text.specs.declared.name.Name.{Name}
 use Rattle.iv_term.specs.declared.term.Term.{Term}
 use Rattle.iv_hsub.specs.Made.{IsPast}
 use Rattle.iv_hsub.proofs.Terms.Past.{past-left, past-right}

@@ -16,8 +16,8 @@ use Rattle.iv_hsub.specs.Hsub.{put_head, put, put_all, happ}
 use Rattle.iv_hsub.proofs.Terms.Base.{type_at-here, fun_induction}
 use Rattle.iv_hsub.proofs.Terms.Put.{happ-nil, happ-spine, happ-lam, put-low, put-here, put-high, index_cases, put-term, put-args, happ-good, Has, lam-type}
 use Rattle.iv_hsub.proofs.Terms.Commute.{raised-type}
-use Rattle.iv_put.specs.Retype.{map_typ, retype_head, retype, retype_all}
-use Rattle.iv_put.proofs.Facts.Retype.{fun-map, cod-map, raise-retype, retype_all-append, retype-eta}
+use Rattle.iv_hsub.specs.Retype.{map_typ, retype_head, retype, retype_all}
+use Rattle.iv_hsub.proofs.Terms.Retype.{fun-map, cod-map, raise-retype, retype_all-append, retype-eta}
 
 module _ (f : Typ → Typ) where
   -- types go past values of type a at arguments

@@ -1,30 +1,28 @@
 -- What look-ups give.
 use Rattle.std.proofs.Common.{◌≡◌, ℕ, zero, suc, Bool, true, false, IsTrue, ◌↔◌, is_some, if◌then◌else◌, Option, Some, None, Bor, List, [], ◌∷◌, ◌++◌, slice_get, ◌+◌, ◌≤◌, length, drop, refl, sym, ◌∙◌, ap, subst, arith}
-use Rattle.std.specs.Option.{unwrap_or, option_copied}
-use Rattle.std.specs.Option.{option_map}
+use Rattle.std.specs.Option.{unwrap_or, option_copied, option_map}
 use Rattle.std.specs.List.{IsDistinct}
 use Rattle.std.specs.Map.{keys_of}
 use Rattle.std.proofs.lemmas.List.{drop_all}
-use Rattle.iv_term.specs.declared.name.Name.{Name}
+use Rattle.iv_text.specs.declared.name.Name.{Name}
 use Rattle.iv_term.specs.declared.typ.Typ.{Typ}
 use Rattle.iv_term.specs.declared.typ.Typ.TheBlock.{Schematic as Variable, Nil as no_types}
 use Rattle.iv_term.specs.declared.term.Term.{Term}
-use Rattle.iv_term.specs.Typ.{same_name}
+use Rattle.iv_text.specs.Name.{same_name}
 use Rattle.iv_term.specs.declared.term.Head.TheVariants.{Schematic}
 use Rattle.iv_term.specs.declared.term.Terms.{Terms}
 use Rattle.iv_term.specs.declared.term.Term.TheBlock.{Spine}
 use Rattle.iv_hsub.specs.Typing.{HasType}
 use Rattle.iv_hsub.specs.Hsub.{happ}
-use Rattle.iv_hsub.specs.Made.{made_happ}
+use Rattle.iv_hsub.specs.Made.{made_happ, made_use, made_inst_head}
 use Rattle.iv_map.specs.NameMap.{look}
 use Rattle.iv_subst.specs.TySubst.{TyMap, put_typ, at, seek}
 use Rattle.iv_subst.proofs.Laws.Entries.{at-seek, drop-at}
 use Rattle.iv_subst.proofs.Laws.Put.{put-none}
 use Rattle.iv_put.specs.declared.substitution.Entry.{Entry}
 use Rattle.iv_put.specs.Subst.{TermMap, Substitution, value_of, has_value, by_map, values, Values, AreClosed}
-use Rattle.iv_put.specs.Retype.{map_typ, retype_head}
-use Rattle.iv_put.specs.Inst.{use_value, inst_head, Fits}
-use Rattle.iv_put.specs.Made.{made_use, made_inst_head}
+use Rattle.iv_hsub.specs.Retype.{map_typ, retype_head}
+use Rattle.iv_hsub.specs.Inst.{use_value, inst_head, Fits}
 use Rattle.iv_put.specs.Entries.{terms_in, AreTyped}
 use Rattle.iv_put.proofs.Facts.Entries.{map-by}
 use Rattle.iv_put.proofs.Facts.Tests.{via, never, is_not}

@@ -16,7 +16,7 @@ use Rattle.iv_hsub.specs.Hhf.{expand}
 use Rattle.iv_hsub.proofs.Terms.Base.{fun_induction}
 use Rattle.iv_hsub.proofs.Terms.Eta.{eta_cases, EtaCase}
 use Rattle.iv_hsub.proofs.Terms.Put.{happ-nil, happ-spine, happ-lam, happ-stuck, put-low, put-here, put-high, index_cases}
-use Rattle.iv_put.specs.Inst.{use_value, inst_head, inst, inst_all, HeadVars, Vars, AllVars}
+use Rattle.iv_hsub.specs.Inst.{use_value, inst_head, inst, inst_all, HeadVars, Vars, AllVars}
 
 module _ (P : Head → Typ → Type 0) where
   head-raise : (d c : ℕ) (h : Head) → HeadVars P h → HeadVars P (raise_head d c h)

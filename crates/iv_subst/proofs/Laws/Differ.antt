@@ -2,12 +2,13 @@
 use Rattle.std.proofs.Common.{◌≡◌, ℕ, Bool, true, false, refl, sym, ◌∙◌, ap, List, if◌then◌else◌, ◌≤◌, ◌+◌, suc, arith}
 use Rattle.std.specs.Prelude.{◌||◌}
 use Rattle.std.specs.Str.{bytes_eq}
-use Rattle.iv_term.specs.declared.name.Name.{Name}
+use Rattle.iv_text.specs.declared.name.Name.{Name}
 use Rattle.iv_term.specs.declared.typ.Typ.{Typ}
 use Rattle.iv_term.specs.declared.typ.Types.{Types}
 use Rattle.iv_term.specs.declared.typ.Typ.TheBlock.{Con, Fixed, Schematic, Nil}
-use Rattle.iv_term.specs.Typ.{ty_cons, same_name}
-use Rattle.iv_term.proofs.Laws.Same.{same_name-true, same_name-same, same_text-true, same_text-same}
+use Rattle.iv_term.specs.Typ.{ty_cons}
+use Rattle.iv_text.specs.Name.{same_name}
+use Rattle.iv_text.proofs.Same.{same_name-true, same_name-same, same_text-true, same_text-same}
 use Rattle.iv_subst.specs.TySubst.{put_typ, put_typs, occurs, occurs_any}
 use Rattle.iv_subst.specs.Unifier.{Difference, nowhere, clash, variable, or_then, differ, differ_all}
 use Rattle.iv_subst.specs.Pairs.{size, size_all}

@@ -7,12 +7,13 @@ use Rattle.std.specs.Map.{keys_of}
 use Rattle.std.proofs.lemmas.List.{append_assoc, append-nil, map-append, drop_more, drop_all}
 use Rattle.std.proofs.lemmas.Option.{slice_get_within, get_or_from_slice_get}
 use Rattle.std.proofs.lemmas.Result.{IfOk-weaker}
-use Rattle.iv_term.specs.declared.want.Want.{Want}
-use Rattle.iv_term.specs.declared.name.Name.{Name}
+use Rattle.iv_text.specs.declared.want.Want.{Want}
+use Rattle.iv_text.specs.declared.name.Name.{Name}
 use Rattle.iv_term.specs.declared.typ.Typ.{Typ}
 use Rattle.iv_term.specs.declared.typ.Types.{Types}
 use Rattle.iv_term.specs.declared.typ.Typ.TheBlock.{Con, Schematic}
-use Rattle.iv_term.specs.Typ.{ty_cons, same_name}
+use Rattle.iv_term.specs.Typ.{ty_cons}
+use Rattle.iv_text.specs.Name.{same_name}
 use Rattle.iv_map.specs.NameMap.{look}
 use Rattle.iv_map.proofs.Entries.{new-name, among, others, apart-others}
 use Rattle.iv_subst.specs.TySubst.{put_typ, TyMap, seek, at, has, under, unhidden, composed}

@@ -1,6 +1,6 @@
 -- What unification keeps from turn to turn.
 use Rattle.std.proofs.Common.{◌≡◌, ℕ, true, false, refl, sym, ◌∙◌, ap, subst, List, [], ◌∷◌, ◌++◌, None, Some, ◌≤◌, ◌<◌, ◌+◌, ◌-◌, zero, suc, arith, length}
-use Rattle.iv_term.specs.declared.name.Name.{Name}
+use Rattle.iv_text.specs.declared.name.Name.{Name}
 use Rattle.iv_term.specs.declared.typ.Typ.{Typ}
 use Rattle.iv_term.specs.declared.typ.Typ.TheBlock.{Schematic, Nil}
 use Rattle.iv_term.specs.Typ.{ty_cons}

@@ -2,12 +2,13 @@
 use Rattle.std.proofs.Common.{◌≡◌, ℕ, suc, Bool, true, false, true≢false, refl, sym, ◌∙◌, ap, List, [], ◌∷◌, ◌++◌, if◌then◌else◌, Some, is_some, ◌<◌, ◌+◌, ◌⊎◌, inl, inr, length, arith}
 use Rattle.std.specs.List.{AllByRecursion}
 use Rattle.std.specs.Map.{keys_of}
-use Rattle.iv_term.specs.declared.name.Name.{Name}
+use Rattle.iv_text.specs.declared.name.Name.{Name}
 use Rattle.iv_term.specs.declared.typ.Typ.{Typ}
 use Rattle.iv_term.specs.declared.typ.Types.{Types}
 use Rattle.iv_term.specs.declared.typ.Typ.TheBlock.{Con, Fixed, Schematic, Nil}
-use Rattle.iv_term.specs.Typ.{ty_cons, same_name}
-use Rattle.iv_term.proofs.Laws.Same.{same_name-true}
+use Rattle.iv_term.specs.Typ.{ty_cons}
+use Rattle.iv_text.specs.Name.{same_name}
+use Rattle.iv_text.proofs.Same.{same_name-true}
 use Rattle.iv_map.specs.NameMap.{Entries, look}
 use Rattle.iv_subst.specs.TySubst.{put_typ, put_typs, occurs, TyMap, seek, at}
 use Rattle.iv_subst.specs.Solved.{solved, AreSolved, AreFree, link}

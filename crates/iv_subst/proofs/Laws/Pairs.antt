@@ -4,12 +4,13 @@ use Rattle.std.specs.Prelude.{Result}
 use Rattle.iv_subst.specs.declared.no_unify.NoUnify.{NoUnify}
 use Rattle.iv_subst.specs.declared.no_unify.NoUnify.TheVariants.{Clash as no_unifier}
 use Rattle.std.specs.Str.{bytes_eq}
-use Rattle.iv_term.specs.declared.name.Name.{Name}
+use Rattle.iv_text.specs.declared.name.Name.{Name}
 use Rattle.iv_term.specs.declared.typ.Typ.{Typ}
 use Rattle.iv_term.specs.declared.typ.Types.{Types}
 use Rattle.iv_term.specs.declared.typ.Typ.TheBlock.{Con, Fixed, Schematic, Nil}
-use Rattle.iv_term.specs.Typ.{ty_cons, same_name}
-use Rattle.iv_term.proofs.Laws.Same.{same_name-true}
+use Rattle.iv_term.specs.Typ.{ty_cons}
+use Rattle.iv_text.specs.Name.{same_name}
+use Rattle.iv_text.proofs.Same.{same_name-true}
 use Rattle.iv_subst.specs.declared.pairs.Step.{Step}
 use Rattle.iv_subst.specs.declared.pairs.Step.TheVariants.{Done, Open, Clash, Assign}
 use Rattle.iv_subst.specs.TySubst.{put_typ, put_typs, then_put, TyMap, seek, at}

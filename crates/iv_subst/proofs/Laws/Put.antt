@@ -1,12 +1,13 @@
 -- Laws of putting types for variables.
 use Rattle.std.proofs.Common.{◌≡◌, Bool, true, false, refl, sym, ◌∙◌, ap, [], ◌∷◌, ◌++◌, if◌then◌else◌}
 use Rattle.std.specs.Prelude.{◌||◌}
-use Rattle.iv_term.specs.declared.name.Name.{Name}
+use Rattle.iv_text.specs.declared.name.Name.{Name}
 use Rattle.iv_term.specs.declared.typ.Typ.{Typ}
 use Rattle.iv_term.specs.declared.typ.Types.{Types}
 use Rattle.iv_term.specs.declared.typ.Typ.TheBlock.{Con, Fixed, Schematic, Nil}
-use Rattle.iv_term.specs.Typ.{ty_cons, same_name}
-use Rattle.iv_term.proofs.Laws.Same.{same_name-true, same_name-same}
+use Rattle.iv_term.specs.Typ.{ty_cons}
+use Rattle.iv_text.specs.Name.{same_name}
+use Rattle.iv_text.proofs.Same.{same_name-true, same_name-same}
 use Rattle.iv_subst.specs.TySubst.{put_typ, put_typs, then_put, single, occurs, occurs_any, TyMap, at, under, has, unhidden, composed, assign, IsIdempotent}
 
 mutual

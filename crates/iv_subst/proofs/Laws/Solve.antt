@@ -1,11 +1,12 @@
 -- Laws of the turns: what they find is a most general unifier, and they find one where there is one.
 use Rattle.std.proofs.Common.{◌≡◌, ℕ, Bool, true, false, refl, sym, ◌∙◌, ap, subst, List, [], ◌∷◌, ◌++◌, Option, None, Some, if◌then◌else◌, ◌<◌, zero, suc, arith, length}
-use Rattle.iv_term.specs.declared.name.Name.{Name}
+use Rattle.iv_text.specs.declared.name.Name.{Name}
 use Rattle.iv_term.specs.declared.typ.Typ.{Typ}
 use Rattle.iv_term.specs.declared.typ.Types.{Types}
 use Rattle.iv_term.specs.declared.typ.Typ.TheBlock.{Con, Fixed, Schematic, Nil}
-use Rattle.iv_term.specs.Typ.{ty_cons, same_name}
-use Rattle.iv_term.proofs.Laws.Same.{same_name-true, same_name-same}
+use Rattle.iv_term.specs.Typ.{ty_cons}
+use Rattle.iv_text.specs.Name.{same_name}
+use Rattle.iv_text.proofs.Same.{same_name-true, same_name-same}
 use Rattle.std.specs.Prelude.{Result, Ok, Err, OnOk, IfErr}
 use Rattle.iv_subst.specs.declared.no_unify.NoUnify.{NoUnify}
 use Rattle.iv_subst.specs.declared.no_unify.NoUnify.TheVariants.{Clash}

@@ -1,10 +1,10 @@
 -- Laws of assignments in triangular form.
 use Rattle.std.proofs.Common.{◌≡◌, ℕ, Bool, true, false, refl, sym, ◌∙◌, ap, subst, [], ◌∷◌, ◌++◌, Option, None, Some, if◌then◌else◌, ◌≤◌, ◌<◌, suc, arith, length}
-use Rattle.iv_term.specs.declared.name.Name.{Name}
+use Rattle.iv_text.specs.declared.name.Name.{Name}
 use Rattle.iv_term.specs.declared.typ.Typ.{Typ}
 use Rattle.iv_term.specs.declared.typ.Typ.TheBlock.{Schematic}
-use Rattle.iv_term.specs.Typ.{same_name}
-use Rattle.iv_term.proofs.Laws.Same.{same_name-true, same_name-same}
+use Rattle.iv_text.specs.Name.{same_name}
+use Rattle.iv_text.proofs.Same.{same_name-true, same_name-same}
 use Rattle.iv_subst.specs.TySubst.{put_typ, then_put, single, occurs, TyMap, seek, at, under, assign, IsIdempotent}
 use Rattle.iv_subst.specs.Solved.{grown, solved, rank, AreSolved, IsHead}
 use Rattle.iv_subst.proofs.Laws.Put.{put-variable, put-put, put-same, single-absent, at-assign, idempotent-assign, same_name-turned}

@@ -1,11 +1,11 @@
--- The tests of sameness decide equality.
-use Rattle.std.proofs.Common.{◌≡◌, ℕ, List, eqb, true, refl, sym, ◌∙◌, ap}
+-- The tests of sameness of types and terms decide equality.
+use Rattle.std.proofs.Common.{◌≡◌, true, refl, sym, ◌∙◌, ap}
 use Rattle.std.specs.Bool.{Decides}
 use Rattle.std.proofs.lemmas.Bool.{and_parts, and_from}
 use Rattle.std.proofs.lemmas.Bool.Decides.{Decides-eqb}
 use Rattle.std.specs.Str.{bytes_eq}
-use Rattle.std.proofs.lemmas.Slice.Eq.{bytes_eq-Decides}
-use Rattle.iv_term.specs.declared.name.Name.{Name}
+use Rattle.iv_text.proofs.Same.{same_text-true, same_text-same, same_name-true, same_name-same}
+use Rattle.iv_text.specs.Name.{same_name}
 use Rattle.iv_term.specs.declared.typ.Typ.{Typ}
 use Rattle.iv_term.specs.declared.typ.Types.{Types}
 use Rattle.iv_term.specs.declared.typ.Typ.TheBlock.{Con, Fixed, Schematic, Nil}
@@ -14,24 +14,8 @@ use Rattle.iv_term.specs.declared.term.Head.TheVariants.{Const, Free, Schematic 
 use Rattle.iv_term.specs.declared.term.Term.{Term}
 use Rattle.iv_term.specs.declared.term.Terms.{Terms}
 use Rattle.iv_term.specs.declared.term.Term.TheBlock.{Spine, Nil as none}
-use Rattle.iv_term.specs.Typ.{ty_cons, same_name, same_typ, same_typs}
+use Rattle.iv_term.specs.Typ.{ty_cons, same_typ, same_typs}
 use Rattle.iv_term.specs.Term.{lam, tm_cons, same_head, same_term, same_terms}
-
-pub same_text-true : (a b : List ℕ) → bytes_eq a b ≡ true → a ≡ b
-same_text-true a b h = (bytes_eq-Decides a b).0 h
-
-pub same_text-same : (a : List ℕ) → bytes_eq a a ≡ true
-same_text-same a = (bytes_eq-Decides a a).1 refl
-
-pub same_name-true : (x y : Name) → same_name x y ≡ true → x ≡ y
-same_name-true x y h =
-    let p : (bytes_eq x.text y.text ≡ true) × (eqb x.number y.number ≡ true) = and_parts _ _ h in
-    let e : x.text ≡ y.text = same_text-true _ _ p.0 in
-    let f : x.number ≡ y.number = (Decides-eqb _ _).0 p.1 in
-    λ i. record { text = e i; number = f i }
-
-pub same_name-same : (x : Name) → same_name x x ≡ true
-same_name-same x = and_from _ _ (same_text-same x.text) ((Decides-eqb x.number x.number).1 refl)
 
 mutual
   unfolding same_typ same_typs

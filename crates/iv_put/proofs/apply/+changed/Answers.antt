@@ -1,10 +1,10 @@
 use Rattle.std.proofs.Common.{refl, sym, subst}
 use Rattle.iv_term.specs.Term.{abs_is, cons_is}
 use Rattle.iv_hsub.proofs.Terms.Past.{exit, past-left, past-right, weaker}
-use Rattle.iv_put.specs.Retype.{retype, retype_all}
-use Rattle.iv_put.specs.Inst.{inst, inst_all}
-use Rattle.iv_put.specs.Subst.{IsShort, AreShort}
-use Rattle.iv_put.specs.Made.{made_inst, made_inst_all}
+use Rattle.iv_hsub.specs.Retype.{retype, retype_all}
+use Rattle.iv_hsub.specs.Inst.{inst, inst_all}
+use Rattle.iv_hsub.specs.Open.{IsShort, AreShort}
+use Rattle.iv_hsub.specs.Made.{made_inst, made_inst_all}
 use Rattle.iv_put.proofs.Facts.Code.{eta-changed, cons-changed}
 use Rattle.iv_put.proofs.apply.+changed.Goals as goal
 

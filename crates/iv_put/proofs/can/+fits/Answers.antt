@@ -1,6 +1,6 @@
 use Rattle.std.proofs.Common.{refl}
 use Rattle.iv_term.specs.Term.{abs_is, cons_is}
-use Rattle.iv_put.specs.Retype.{retype, retype_all}
+use Rattle.iv_hsub.specs.Retype.{retype, retype_all}
 use Rattle.iv_put.proofs.Facts.Tests.{pair-no, pair-yes}
 use Rattle.iv_put.proofs.can.+fits.Goals as goal
 

@@ -1,6 +1,6 @@
 use Rattle.std.proofs.Common.{refl}
 use Rattle.iv_term.specs.Term.{abs_is, cons_is}
-use Rattle.iv_put.specs.Retype.{retype, retype_all}
+use Rattle.iv_hsub.specs.Retype.{retype, retype_all}
 use Rattle.iv_put.proofs.Facts.Code.{abs-changed, spine-changed, cons-changed}
 use Rattle.iv_put.proofs.retyping.+changed.Goals as goal
 

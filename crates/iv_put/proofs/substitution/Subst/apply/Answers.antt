@@ -3,7 +3,7 @@ use Rattle.std.proofs.lemmas.Result.{IfOk-weaker}
 use Rattle.iv_hsub.specs.Typing.{type_of, HasType}
 use Rattle.iv_hsub.proofs.Terms.Past.{exit}
 use Rattle.iv_subst.specs.TySubst.{put_typ, put_typs, at}
-use Rattle.iv_put.proofs.Facts.Short.{short-term}
+use Rattle.iv_hsub.proofs.Terms.Short.{short-term}
 use Rattle.iv_put.proofs.Stated.{apply_keeps}
 use Rattle.iv_put.proofs.substitution.Subst.apply.Goals as goal
 

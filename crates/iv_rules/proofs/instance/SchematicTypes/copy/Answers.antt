@@ -1,5 +1,5 @@
 use Rattle.std.proofs.Common.{◌≤◌, length, arith, refl}
-use Rattle.iv_term.specs.Typ.{same_name}
+use Rattle.iv_text.specs.Name.{same_name}
 use Rattle.iv_rules.proofs.Lists.{copied-on, copied-end, copied-new}
 use Rattle.iv_rules.proofs.instance.SchematicTypes.copy.Goals as goal
 

@@ -1,6 +1,6 @@
 use Rattle.std.proofs.Common.{◌<◌, ◌≤◌, length, ap, sym, ◌∙◌, arith}
 use Rattle.std.specs.Map.{lookup}
-use Rattle.iv_term.specs.Typ.{same_name}
+use Rattle.iv_text.specs.Name.{same_name}
 use Rattle.iv_rules.proofs.Lists.{look-here, look-on, look-end}
 use Rattle.iv_rules.proofs.instance.SchematicTypes.get.Goals as goal
 

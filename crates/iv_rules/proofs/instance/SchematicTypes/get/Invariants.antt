@@ -1,6 +1,6 @@
 use Rattle.std.proofs.Common.{◌≡◌, drop}
 use Rattle.std.specs.Map.{lookup}
-use Rattle.iv_term.specs.Typ.{same_name}
+use Rattle.iv_text.specs.Name.{same_name}
 use Rattle.iv_rules.proofs.instance.SchematicTypes.get.Given as goal
 
 abbrev pub invariant-loop-entry : goal.invariant-loop-entry

@@ -1,4 +1,4 @@
-use Rattle.iv_term.specs.Typ.{same_name}
+use Rattle.iv_text.specs.Name.{same_name}
 use Rattle.iv_rules.proofs.Lists.{distinct-push}
 use Rattle.iv_rules.proofs.instance.SchematicTypes.push.Goals as goal
 

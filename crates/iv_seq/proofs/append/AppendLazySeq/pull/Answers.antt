@@ -1,5 +1,4 @@
-use Rattle.iv_seq.proofs.Pulls.{front_gave, front_failed, ended_then}
-use Rattle.iv_seq.proofs.Meanings.{handed_on, fitting_first, fitting_second, limited_first, limited_second}
+use Rattle.iv_seq.proofs.Theory.{handed_on, front_gave, front_failed, ended_then, fitting_first, fitting_second}
 use Rattle.iv_seq.proofs.append.AppendLazySeq.pull.Goals as goal
 
 pub returns-in_err-leaf-clause-pulled : goal.returns-in_err-leaf-clause-pulled
@@ -8,23 +7,14 @@ returns-in_err-leaf-clause-pulled g c = rw (handed_on _ _ c.from_residual.ensure
 pub returns-in_err-leaf-clause-fitting : goal.returns-in_err-leaf-clause-fitting
 returns-in_err-leaf-clause-fitting g c = rw (handed_on _ _ c.from_residual.ensures.1) (fitting_first _ _ _ _ c.in_err-leaf.ensures.fitting)
 
-pub returns-in_err-leaf-clause-limited : goal.returns-in_err-leaf-clause-limited
-returns-in_err-leaf-clause-limited g c = rw (handed_on _ _ c.from_residual.ensures.1) (limited_first _ _ _ _ c.in_err-leaf.ensures.limited)
-
 pub returns-in-Some-clause-pulled : goal.returns-in-Some-clause-pulled
 returns-in-Some-clause-pulled g c = front_gave _ _ _ _ _ _ (rw c.in-Some.is at c.in_ok-leaf.ensures.pulled)
 
 pub returns-in-Some-clause-fitting : goal.returns-in-Some-clause-fitting
 returns-in-Some-clause-fitting g c = fitting_first _ _ _ _ (rw c.in-Some.is at c.in_ok-leaf.ensures.fitting)
 
-pub returns-in-Some-clause-limited : goal.returns-in-Some-clause-limited
-returns-in-Some-clause-limited g c = limited_first _ _ _ _ (rw c.in-Some.is at c.in_ok-leaf.ensures.limited)
-
 pub returns-in-None-clause-pulled : goal.returns-in-None-clause-pulled
 returns-in-None-clause-pulled g c = ended_then _ _ _ _ _ _ _ _ (rw c.in-None.is at c.in_ok-leaf.ensures.pulled) c.pull-in-None.ensures.pulled
 
 pub returns-in-None-clause-fitting : goal.returns-in-None-clause-fitting
 returns-in-None-clause-fitting g c = fitting_second _ _ _ _ _ _ c.in_ok-leaf.ensures.fitting c.pull-in-None.ensures.fitting
-
-pub returns-in-None-clause-limited : goal.returns-in-None-clause-limited
-returns-in-None-clause-limited g c = limited_second _ _ _ _ _ _ c.in_ok-leaf.ensures.limited c.pull-in-None.ensures.limited

@@ -1,6 +1,5 @@
-use Rattle.std.proofs.Common.{refl}
-use Rattle.iv_seq.proofs.Pulls.{either_gave, either_failed, either_ended, met_none, met_none_at_end}
-use Rattle.iv_seq.proofs.Meanings.{handed_on, fitting_first, fitting_second, limited_choice, limited_chosen, limited_needed}
+use Rattle.iv_seq.proofs.Parts.{either_gave, either_failed, either_ended}
+use Rattle.iv_seq.proofs.Theory.{handed_on, fitting_first, fitting_second}
 use Rattle.iv_seq.proofs.or_else.OrElseLazySeq.pull.Goals as goal
 
 pub returns-in_err-leaf-clause-pulled : goal.returns-in_err-leaf-clause-pulled
@@ -9,27 +8,14 @@ returns-in_err-leaf-clause-pulled g c = rw (handed_on _ _ c.from_residual.ensure
 pub returns-in_err-leaf-clause-fitting : goal.returns-in_err-leaf-clause-fitting
 returns-in_err-leaf-clause-fitting g c = rw (handed_on _ _ c.from_residual.ensures.1) (fitting_first _ _ _ _ c.in_err-leaf.ensures.fitting)
 
-pub returns-in_err-leaf-clause-limited : goal.returns-in_err-leaf-clause-limited
-returns-in_err-leaf-clause-limited g c =
-    rw (handed_on _ _ c.from_residual.ensures.1)
-    (limited_choice _ _ _ _ _ _ _ (met_none _ _ _ _ _ c.in_err-leaf.ensures.pulled refl) c.in_err-leaf.ensures.limited)
-
 pub returns-in-Some-clause-pulled : goal.returns-in-Some-clause-pulled
 returns-in-Some-clause-pulled g c = either_gave _ _ _ _ _ _ _ (rw c.in-Some.is at c.in_ok-leaf.ensures.pulled)
 
 pub returns-in-Some-clause-fitting : goal.returns-in-Some-clause-fitting
 returns-in-Some-clause-fitting g c = fitting_first _ _ _ _ (rw c.in-Some.is at c.in_ok-leaf.ensures.fitting)
 
-pub returns-in-Some-clause-limited : goal.returns-in-Some-clause-limited
-returns-in-Some-clause-limited g c = limited_chosen _ _ _ _ _ (rw c.in-Some.is at c.in_ok-leaf.ensures.limited)
-
 pub returns-then-self-clause-fitting : goal.returns-then-self-clause-fitting
 returns-then-self-clause-fitting g c = fitting_first _ _ _ _ (rw c.in_default.is at c.in_ok-leaf.ensures.fitting)
-
-pub returns-then-self-clause-limited : goal.returns-then-self-clause-limited
-returns-then-self-clause-limited g c =
-    let p = rw c.in_default.is at c.in_ok-leaf.ensures.pulled in
-    limited_choice _ _ _ _ _ _ _ (met_none _ _ _ _ _ p refl) (rw c.in_default.is at c.in_ok-leaf.ensures.limited)
 
 pub returns-clause-pulled : goal.returns-clause-pulled
 returns-clause-pulled g c =
@@ -38,8 +24,3 @@ returns-clause-pulled g c =
 
 pub returns-clause-fitting : goal.returns-clause-fitting
 returns-clause-fitting g c = fitting_second _ _ _ _ _ _ c.in_ok-leaf.ensures.fitting c.pull-2.ensures.fitting
-
-pub returns-clause-limited : goal.returns-clause-limited
-returns-clause-limited g c =
-    let p = rw c.in_default.is at c.in_ok-leaf.ensures.pulled in
-    limited_needed _ _ _ _ _ _ _ _ _ c.if-self.false (met_none_at_end _ _ _ _ p) c.in_ok-leaf.ensures.limited c.pull-2.ensures.limited

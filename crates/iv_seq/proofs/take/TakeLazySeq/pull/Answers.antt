@@ -1,6 +1,6 @@
 use Rattle.std.proofs.Common.{◌<◌, arith}
-use Rattle.iv_seq.proofs.Pulls.{cut_closed, cut_failed, cut_gave, cut_ended}
-use Rattle.iv_seq.proofs.Meanings.{handed_on}
+use Rattle.iv_seq.proofs.Parts.{cut_closed, cut_failed, cut_gave, cut_ended}
+use Rattle.iv_seq.proofs.Theory.{handed_on}
 use Rattle.iv_seq.proofs.take.TakeLazySeq.pull.Goals as goal
 
 pub returns-then-self-eq0-clause-pulled : goal.returns-then-self-eq0-clause-pulled

@@ -1,6 +1,0 @@
-use Rattle.std.proofs.Common.{map, take}
-use Rattle.isarvm.specs.Command.{run_of, AreEach, IsRead}
-use Rattle.isarvm.proofs.commands.commands_in.Given as goal
-
-abbrev pub invariant-loop-piece : goal.invariant-loop-piece
-invariant-loop-piece l = AreEach IsRead (map (run_of l.tokens) (take l.piece-index l.pieces)) l.found.items

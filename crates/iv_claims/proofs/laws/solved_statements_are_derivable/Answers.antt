@@ -1,5 +1,0 @@
-use Rattle.iv_claims.proofs.Solved.{solved-derivable}
-use Rattle.iv_claims.proofs.laws.solved_statements_are_derivable.Goals as goal
-
-pub returns : goal.returns
-returns c = solved-derivable c.propositions_are_shown.ensures.assume c.propositions_are_shown.ensures.imp_intr c.instances_are_shown.ensures.inst

@@ -1,4 +1,0 @@
-pub mod Statement
-pub mod Closed
-pub mod Open
-pub mod Laws

@@ -1,6 +1,0 @@
-use Rattle.std.proofs.Common.{◌∙◌}
-use Rattle.iv_inst.proofs.Facts.{found-some}
-use Rattle.iv_inst.proofs.fresh.has_value.Goals as goal
-
-pub returns : goal.returns
-returns c = c.is_some.ensures ∙ found-some c.get.result _ c.get.ensures

@@ -1,6 +1,0 @@
-use Rattle.std.proofs.Common.{◌≡◌, drop}
-use Rattle.iv_read.specs.Commands.{names_ahead}
-use Rattle.iv_read.proofs.commands.names_ahead.Given as goal
-
-abbrev pub invariant-loop-token : goal.invariant-loop-token
-invariant-loop-token l = names_ahead l.fn.tokens ≡ names_ahead (drop l.token-index l.tokens)

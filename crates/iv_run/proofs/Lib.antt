@@ -1,0 +1,15 @@
+pub mod Lists
+pub mod StatementSteps
+pub mod Forms
+pub mod Discharged
+pub mod Entries
+pub mod Generalising
+pub mod Results
+pub mod ClaimSteps
+pub mod Solved
+pub mod NameSteps
+pub mod LineSteps
+pub mod PlainTexts
+pub mod MachineSteps
+pub mod RunSteps
+pub mod Derivable

@@ -1,0 +1,12 @@
+pub mod Statement
+pub mod Closed
+pub mod Open
+pub mod Laws
+pub mod Refusal
+pub mod Machine
+pub mod Names
+pub mod Sound
+pub mod Report
+pub mod Line
+pub mod Answer
+pub mod Run

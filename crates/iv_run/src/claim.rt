@@ -1,0 +1,63 @@
+ghost use Rattle.std.specs.Prelude.{◌≡◌, true, false, IfOk, IfErr, MatchOption};
+ghost use Rattle.iv_text.specs.declared.want.Want.TheVariants.{Memory};
+ghost use Rattle.iv_run.specs.Closed.{IsClosed};
+ghost use Rattle.iv_run.specs.Open.{IsOpen};
+ghost use Rattle.iv_run.specs.Statement.{schematic_var, statement_of, is_solved};
+
+use crate::prove::{from_conclusion, generalised};
+use crate::statement;
+use iv_kernel::{Goal, Thm};
+use iv_rules::laws::parts_of_propositions;
+use iv_statement::Parts;
+use iv_text::{Mem, Text};
+use std::alloc::Global;
+
+/// A statement to be proved, with the goal that is left of it.
+#[derive(Drop)]
+pub struct Claim {
+    /// The name of the theorem to be.
+    pub label: Text,
+    /// The parts of the statement.
+    pub parts: Parts,
+    /// What is left to prove.
+    pub goal: Goal,
+}
+
+impl Claim {
+    /// A statement as a claim with itself as the only subgoal. Fails where memory runs out.
+    pub fn open(alloc: Global, label: &Text, parts: &Parts) -> Mem<Claim>
+        ensures label { IfOk result (λ c. c.label ≡ label.now) }
+        ensures parts { IfOk result (λ c. c.parts ≡ parts.now) }
+        ensures open { IfOk result (λ c. IsOpen c) }
+        ensures memory { IfErr result (λ w. w ≡ Memory) }
+    {
+        parts_of_propositions();
+        let (premises, conclusion) = parts.split();
+        let claim = statement::statement(alloc, premises, conclusion)?;
+        let goal = Goal::init(alloc, &claim)?;
+        let label = label.copy()?;
+        let parts = parts.copy()?;
+        Ok(Claim { label, parts, goal })
+    }
+
+    /// The theorem of a statement that has its conclusion as a premise, with its free variables schematic; `None` where no
+    /// premise is the conclusion. Fails where memory runs out.
+    pub fn prove(&self, alloc: Global) -> Mem<Option<Thm>>
+        requires { IsOpen self.now }
+        ensures solved { IfOk result (λ r. MatchOption r (is_solved self.now.parts ≡ false) (λ t. is_solved self.now.parts ≡ true)) }
+        ensures prop { IfOk result (λ r. MatchOption r (Unit {0}) (λ t. t.prop ≡ statement_of schematic_var self.now.parts)) }
+        ensures closed { IfOk result (λ r. MatchOption r (Unit {0}) (λ t. IsClosed t)) }
+        ensures memory { IfErr result (λ w. w ≡ Memory) }
+    {
+        let (premises, conclusion) = self.parts.split();
+        if !statement::is_solved(premises, conclusion) {
+            return Ok(None);
+        }
+        let solved = from_conclusion(alloc, premises, conclusion)?;
+        let thm = Thm::imp_elim(alloc, self.goal.thm(), &solved)?;
+        let goal = Goal::made(thm, 0, self.goal.claim())?;
+        let proved = generalised(alloc, &goal.finish(), premises, conclusion)?;
+        let _kept = proved.derivation();
+        Ok(Some(proved))
+    }
+}

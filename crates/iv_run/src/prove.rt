@@ -1,0 +1,86 @@
+ghost use Rattle.std.specs.Prelude.{◌≡◌, [], ◌∷◌, ◌++◌, IfOk, IfErr};
+ghost use Rattle.iv_text.specs.declared.want.Want.TheVariants.{Memory};
+ghost use Rattle.iv_term.specs.declared.term.Term.TheBlock.{Nil};
+ghost use Rattle.iv_rules.specs.Rules.{axioms_of};
+ghost use Rattle.iv_run.specs.Statement.{free_var, schematic_var, statement_of, with_entry, with_entries, general, open_hyps};
+
+use crate::statement::{free_var, name_of, schematic_var};
+use iv_kernel::Thm;
+use iv_rules::{FixedTypes, Instance, SchematicTypes, VarTerms};
+use iv_term::Typ;
+use iv_text::{Mem, Text};
+use std::alloc::Global;
+
+/// The theorem that a statement follows from its conclusion, which is no hypothesis any more where it is a
+/// premise too. Fails where memory runs out.
+pub fn from_conclusion(alloc: Global, premises: &[Text], conclusion: &Text) -> Mem<Thm>
+    ensures prop { IfOk result (λ t. t.prop ≡ statement_of free_var (premises.now ++ conclusion.now ∷ [])) }
+    ensures hyps { IfOk result (λ t. t.hyps ≡ open_hyps premises.now conclusion.now) }
+    ensures axioms { IfOk result (λ t. axioms_of t.derivation ≡ []) }
+    ensures memory { IfErr result (λ w. w ≡ Memory) }
+{
+    let assumed = free_var(alloc, conclusion)?;
+    let mut thm = Thm::assume(alloc, &assumed)?;
+    let mut at = premises.len();
+    'premises: while at > 0 {
+        at -= 1;
+        let premise = free_var(alloc, &premises[at])?;
+        thm = Thm::imp_intr(alloc, &premise, &thm)?;
+    }
+    Ok(thm)
+}
+
+/// The entries with one that puts the schematic variable of a text for its free one, where there is none
+/// yet. Fails where memory runs out.
+fn with_entry(alloc: Global, text: &Text, mut entries: VarTerms) -> Mem<VarTerms>
+    ensures ok { IfOk result (λ s. s ≡ with_entry text.now entries) }
+    ensures memory { IfErr result (λ w. w ≡ Memory) }
+{
+    let name = name_of(text)?;
+    let prop = Typ::prop(alloc)?;
+    if entries.get(&name, &prop).is_some() {
+        return Ok(entries);
+    }
+    let value = schematic_var(alloc, text)?;
+    entries.push(name, prop, value)?;
+    Ok(entries)
+}
+
+/// Entries that put the schematic variables of some texts for their free ones. Fails where memory runs out.
+fn schematic_entries(alloc: Global, premises: &[Text], conclusion: &Text) -> Mem<VarTerms>
+    ensures ok { IfOk result (λ s. s ≡ with_entries premises.now (with_entry conclusion.now [])) }
+    ensures memory { IfErr result (λ w. w ≡ Memory) }
+{
+    let mut entries = with_entry(alloc, conclusion, VarTerms::new(alloc))?;
+    for premise in premises {
+        entries = with_entry(alloc, premise, entries)?;
+    }
+    Ok(entries)
+}
+
+/// What makes the free variables of a statement schematic. Fails where memory runs out.
+fn generalising(alloc: Global, premises: &[Text], conclusion: &Text) -> Mem<Instance>
+    ensures ok { IfOk result (λ s. s ≡ general (with_entries premises.now (with_entry conclusion.now []))) }
+    ensures memory { IfErr result (λ w. w ≡ Memory) }
+{
+    let frees = schematic_entries(alloc, premises, conclusion)?;
+    Ok(Instance {
+        fixed: FixedTypes::new(alloc),
+        types: SchematicTypes::new(alloc),
+        frees,
+        schematics: VarTerms::new(alloc),
+    })
+}
+
+/// A proved statement with its free variables made schematic. Fails where memory runs out.
+pub fn generalised(alloc: Global, thm: &Thm, premises: &[Text], conclusion: &Text) -> Mem<Thm>
+    requires hyps { thm.now.hyps ≡ Nil }
+    requires prop { thm.now.prop ≡ statement_of free_var (premises.now ++ conclusion.now ∷ []) }
+    ensures prop { IfOk result (λ t. t.prop ≡ statement_of schematic_var (premises.now ++ conclusion.now ∷ [])) }
+    ensures hyps { IfOk result (λ t. t.hyps ≡ Nil) }
+    ensures axioms { IfOk result (λ t. axioms_of t.derivation ≡ axioms_of thm.now.derivation) }
+    ensures memory { IfErr result (λ w. w ≡ Memory) }
+{
+    let instance = generalising(alloc, premises, conclusion)?;
+    Thm::inst(alloc, &instance, thm)
+}

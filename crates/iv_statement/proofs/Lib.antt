@@ -1,0 +1,4 @@
+pub mod CommandSteps
+pub mod TokenOrder
+pub mod PartSteps
+pub mod WordSteps
