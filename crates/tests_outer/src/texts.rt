@@ -1,6 +1,9 @@
 //! Texts as tokens, and where they are refused.
+ghost use Rattle.std.specs.Prelude.{◌<◌, length};
+
 use iv_lex::{Token, tokens};
 use iv_outer::{Reading, command};
+use iv_text::Pos;
 use std::alloc::Global;
 use std::process::Abort;
 
@@ -23,15 +26,26 @@ pub fn nested(rt: &impl Abort, alloc: Global, texts: [&str; 3], count: u32) -> S
     out
 }
 
+/// Where a piece is refused; `None` where a form reads it.
+fn refused_at(rt: &impl Abort, alloc: Global, tokens: &[Token]) -> Option<Pos>
+    requires { 0 < length tokens.now }
+{
+    let command = command(alloc, tokens).expect(rt, "memory");
+    match &command.reading {
+        Reading::Form(_body) => None,
+        Reading::Unreadable(at) => Some(*at),
+    }
+}
+
 /// Writes where a piece is refused, or `-` where a form reads it; a piece without tokens is cut at its begin.
 pub fn push_place(rt: &impl Abort, alloc: Global, out: &mut String, tokens: &[Token]) {
     if tokens.is_empty() {
         out.push('0').expect(rt, "memory");
         return;
     }
-    match command(alloc, tokens).expect(rt, "memory").reading {
-        Reading::Form(_body) => out.push('-').expect(rt, "memory"),
-        Reading::Unreadable(at) => {
+    match refused_at(rt, alloc, tokens) {
+        None => out.push('-').expect(rt, "memory"),
+        Some(at) => {
             let at = at.0;
             write!(out, "{at}").expect(rt, "memory");
         }

@@ -71,7 +71,7 @@ fn steps_go_as_deep_as_they_are_told(rt: HostRuntime) {
         let mut expected = first;
         for result in found.iter() {
             assert_eq!(rt; *result, expected);
-            expected += 1;
+            expected = expected.wrapping_add(1);
         }
     }
 }

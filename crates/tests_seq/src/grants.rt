@@ -1,4 +1,4 @@
-ghost use Rattle.std.specs.Prelude.{◌≡◌, ◌+◌, ◌/◌, [], ◌∷◌, ◌++◌, IfOk, map, if◌then◌else◌, nat_eq};
+ghost use Rattle.std.specs.Prelude.{◌≡◌, ◌<◌, ◌+◌, ◌/◌, [], ◌∷◌, ◌++◌, IfOk, map, if◌then◌else◌, nat_eq};
 ghost use Rattle.iv_seq.specs.Moments.{bound, cut, either, leaves_in, listed, meets, passes, too_large};
 
 use iv_seq::{Append, Bind, Follow, LazySeq, Listed, OrElse, Seen, Steps, Take, gathered};

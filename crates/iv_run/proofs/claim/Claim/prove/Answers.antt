@@ -40,7 +40,7 @@ returns-clause-closed c =
     let axioms : axioms_of c.in_ok-thm.thm.derivation ≡ [] =
     axioms-elim _ _ _ c.in_ok-thm.ensures.derivation (ap (λ t. axioms_of t.derivation) c.thm.ensures.same ∙ c.requires.axioms) c.in_ok-solved.ensures.axioms in
     record {
-      kept = c.derivation.ensures.kept;
+      kept = c.derivation-kept.ensures.kept;
       hyps = c.in_ok-proved.ensures.hyps;
       axioms = c.in_ok-proved.ensures.axioms ∙ ap (λ t. axioms_of t.derivation) (c.finish.ensures.thm ∙ c.in_ok-goal.ensures.thm) ∙ axioms;
     }
