@@ -11,7 +11,7 @@ ghost use Rattle.iv_hsub.specs.Made.{IsPast, made_raise, made_happ};
 ghost use Rattle.iv_rules.specs.Equality.{eq, lhs, rhs, side_type, IsEquation, all, predicate, app};
 ghost use Rattle.iv_rules.specs.Conditions.{CanAllElim, CanComb};
 
-use crate::terms::{all, app, eq, lhs, predicate, predicate_type, rhs, side_type};
+use crate::terms::{all, app, arrow, eq, lhs, predicate, predicate_type, rhs, side_type};
 use iv_hsub::typing::cod;
 use iv_hsub::{abstract_over, type_of};
 use iv_term::{Term, Typ, Types};
@@ -79,6 +79,15 @@ pub fn applied(alloc: Global, p: &Term, q: &Term) -> Mem<Term>
     eq(alloc, cod(typ), &left, &right)
 }
 
+/// `f == g`, for functions from `from` to `to`. Fails where memory runs out.
+fn equal_functions(alloc: Global, from: &Typ, to: &Typ, f: &Term, g: &Term) -> Mem<Term>
+    ensures ok { IfOk result (λ r. r ≡ eq (fun from.now to.now) f.now g.now) }
+    ensures memory { IfErr result (λ w. w ≡ Memory) }
+{
+    let typ = arrow(alloc, from, to)?;
+    eq(alloc, &typ, f, g)
+}
+
 /// `(%x. s) == (%x. t)`, for an equation `s == t`. Fails where memory runs out; with `Number` only where an index or a
 /// depth that is made on the way is 4,294,967,295 or more.
 pub fn abstracted(alloc: Global, name: &Name, typ: &Typ, p: &Term) -> Mem<Term>
@@ -88,8 +97,7 @@ pub fn abstracted(alloc: Global, name: &Name, typ: &Typ, p: &Term) -> Mem<Term>
 {
     let left = abstract_over(alloc, lhs(p), name, typ)?;
     let right = abstract_over(alloc, rhs(p), name, typ)?;
-    let typ = Typ::fun(alloc, typ.copy()?, side_type(p).copy()?)?;
-    eq(alloc, &typ, &left, &right)
+    equal_functions(alloc, typ, side_type(p), &left, &right)
 }
 
 /// `A == B`, for an implication `A ==> B`. Fails where memory runs out.

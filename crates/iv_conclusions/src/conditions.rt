@@ -77,15 +77,24 @@ pub fn is_equal_to(p: &Term, q: &Term) -> bool
     side_type(p).is_prop() && lhs(p).is(q)
 }
 
+/// Whether a term with each `!!` in front of `==>` is this one. Fails where memory runs out; with `Number` only where an
+/// index or a depth that is made on the way is 4,294,967,295 or more.
+fn has_form(alloc: Global, p: &Term, form: &Term) -> Mem<bool>
+    ensures ok { IfOk result (λ b. IsTrue b ↔ (hhf p.now ≡ form.now)) }
+    ensures number { IfErr result (λ w. w ≡ Number → IsPast (made_hhf p.now)) }
+{
+    let own = hhf(alloc, p)?;
+    Ok(own.is(form))
+}
+
 /// Whether two terms have one form with each `!!` in front of `==>`. Fails where memory runs out; with `Number` only where
 /// an index or a depth that is made on the way is 4,294,967,295 or more.
 fn are_one_form(alloc: Global, p: &Term, q: &Term) -> Mem<bool>
     ensures ok { IfOk result (λ b. IsTrue b ↔ (hhf p.now ≡ hhf q.now)) }
     ensures number { IfErr result (λ w. w ≡ Number → IsPast (made_hhf p.now ++ made_hhf q.now)) }
 {
-    let first = hhf(alloc, p)?;
-    let second = hhf(alloc, q)?;
-    Ok(first.is(&second))
+    let form = hhf(alloc, q)?;
+    has_form(alloc, p, &form)
 }
 
 /// Whether the first is a proposition of one form with the second, with each `!!` in front of `==>`. Fails where memory

@@ -6,7 +6,9 @@ ghost use Rattle.iv_term.specs.declared.term.Head.TheVariants.{Const};
 ghost use Rattle.iv_term.specs.Typ.{prop, fun};
 ghost use Rattle.iv_hsub.specs.Typing.{dom, cod};
 ghost use Rattle.iv_hsub.specs.Made.{IsPast, made_happ};
-ghost use Rattle.iv_hsub.specs.Hhf.{one};
+ghost use Rattle.iv_term.specs.Term.{tm_cons};
+ghost use Rattle.iv_term.specs.declared.term.Term.TheBlock.{Nil};
+ghost use Rattle.iv_hsub.specs.Hhf.{all_head, one};
 ghost use Rattle.iv_rules.specs.Equality.{eq_head, eq, lhs, rhs, head_dom, side_type, IsEquation, all, predicate, app};
 ghost use Rattle.iv_conclusions.specs.Quantified.{predicate_type, IsQuantified};
 
@@ -17,16 +19,54 @@ use iv_term::{Head, Term, Terms, Typ};
 use iv_text::{Mem, Text};
 use std::alloc::Global;
 
+/// The type of functions from one type to another. Fails where memory runs out.
+pub(crate) fn arrow(alloc: Global, from: &Typ, to: &Typ) -> Mem<Typ>
+    ensures ok { IfOk result (λ a. a ≡ fun from.now to.now) }
+    ensures memory { IfErr result (λ w. w ≡ Memory) }
+{
+    let from = from.copy()?;
+    let to = to.copy()?;
+    Typ::fun(alloc, from, to)
+}
+
+/// The constant `==` on terms of type `a`. Fails where memory runs out.
+fn eq_head(alloc: Global, a: &Typ) -> Mem<Head>
+    ensures ok { IfOk result (λ h. h ≡ eq_head a.now) }
+    ensures memory { IfErr result (λ w. w ≡ Memory) }
+{
+    let typ = eq_typ(alloc, a)?;
+    let name = Text::from_slice(alloc, &['=', '='])?;
+    Ok(Head::Const(name, typ))
+}
+
+/// The list of two terms. Fails where memory runs out.
+fn both(alloc: Global, s: &Term, t: &Term) -> Mem<Terms>
+    ensures ok { IfOk result (λ ts. ts ≡ tm_cons s.now (tm_cons t.now Nil)) }
+    ensures memory { IfErr result (λ w. w ≡ Memory) }
+{
+    let last = Terms::only(alloc, t)?;
+    let first = s.copy()?;
+    Terms::cons(alloc, first, last)
+}
+
 /// The equation `s == t` of terms of type `a`. Fails where memory runs out.
 pub fn eq(alloc: Global, a: &Typ, s: &Term, t: &Term) -> Mem<Term>
     ensures ok { IfOk result (λ r. r ≡ eq a.now s.now t.now) }
     ensures memory { IfErr result (λ w. w ≡ Memory) }
 {
-    let typ = eq_typ(alloc, a)?;
-    let name = Text::from_slice(alloc, &['=', '='])?;
-    let last = Terms::only(alloc, t)?;
-    let sides = Terms::cons(alloc, s.copy()?, last)?;
-    Ok(Term::Spine(Head::Const(name, typ), sides))
+    let head = eq_head(alloc, a)?;
+    let sides = both(alloc, s, t)?;
+    Ok(Term::Spine(head, sides))
+}
+
+/// The constant `!!` over terms of type `a`. Fails where memory runs out.
+fn all_head(alloc: Global, a: &Typ) -> Mem<Head>
+    ensures ok { IfOk result (λ h. h ≡ all_head a.now) }
+    ensures memory { IfErr result (λ w. w ≡ Memory) }
+{
+    let typ = all_typ(alloc, a)?;
+    let name = Text::from_slice(alloc, &['!', '!'])?;
+    Ok(Head::Const(name, typ))
 }
 
 /// `!! f` for a predicate f on terms of type `a`. Fails where memory runs out.
@@ -34,10 +74,9 @@ pub fn all(alloc: Global, a: &Typ, f: &Term) -> Mem<Term>
     ensures ok { IfOk result (λ r. r ≡ all a.now f.now) }
     ensures memory { IfErr result (λ w. w ≡ Memory) }
 {
-    let typ = all_typ(alloc, a)?;
-    let name = Text::from_slice(alloc, &['!', '!'])?;
+    let head = all_head(alloc, a)?;
     let args = Terms::only(alloc, f)?;
-    Ok(Term::Spine(Head::Const(name, typ), args))
+    Ok(Term::Spine(head, args))
 }
 
 /// `f x`, where f is of type `c`. Fails where memory runs out; with `Number` only where an index or a depth that is made

@@ -1,7 +1,7 @@
 ghost use Rattle.std.specs.Prelude.{◌≡◌, ℕ, ◌-◌, ◌≤◌, ◌<◌, [], ◌∷◌, length, slice_get, Some, IfOk, IfErr, IsTrue, ◌↔◌};
 ghost use Rattle.iv_text.specs.declared.want.Want.TheVariants.{Memory, Number};
 ghost use Rattle.iv_term.specs.declared.term.Term.TheBlock.{Nil};
-ghost use Rattle.iv_term.specs.Term.{imp};
+ghost use Rattle.iv_term.specs.Term.{imp, tm_cons};
 ghost use Rattle.iv_hsub.specs.Hhf.{hhf};
 ghost use Rattle.iv_hsub.specs.Made.{IsPast, made_hhf};
 ghost use Rattle.iv_rules.specs.declared.derivation.Derivation.TheBlock.{Assume};
@@ -146,6 +146,20 @@ impl Goal {
     }
 }
 
+/// `hhf claim |- claim`.
+fn from_form(alloc: Global, form: &Term, claim: &Term) -> Mem<Thm>
+    requires claim { IsProp claim.now }
+    requires form { form.now ≡ hhf claim.now }
+    ensures prop { IfOk result (λ r. r.prop ≡ claim.now) }
+    ensures hyps { IfOk result (λ r. r.hyps ≡ tm_cons form.now Nil) }
+    ensures derivation { IfOk result (λ r. r.derivation ≡ conv claim.now (Assume form.now)) }
+    ensures memory { IfErr result (λ w. w ≡ Memory) }
+{
+    hhf_is_a_normal_form();
+    let assumed = Thm::assume(alloc, form)?;
+    Thm::conv(alloc, claim, &assumed)
+}
+
 /// `|- hhf claim ==> claim`.
 fn form_implies(alloc: Global, claim: &Term) -> Mem<Thm>
     requires { IsProp claim.now }
@@ -157,8 +171,7 @@ fn form_implies(alloc: Global, claim: &Term) -> Mem<Thm>
     hhf_is_a_normal_form();
     hypotheses_are_told_apart();
     let form = hhf(alloc, claim)?;
-    let assumed = Thm::assume(alloc, &form)?;
-    let concluded = Thm::conv(alloc, claim, &assumed)?;
+    let concluded = from_form(alloc, &form, claim)?;
     Thm::imp_intr(alloc, &form, &concluded)
 }
 

@@ -3,6 +3,9 @@ ghost use Rattle.std.specs.Prelude.{◌≡◌, ◌-◌, ◌≤◌, ◌⊎◌, Li
 ghost use Rattle.std.specs.List.{AllByRecursion};
 ghost use Rattle.iv_text.specs.declared.want.Want.TheVariants.{Memory};
 ghost use Rattle.iv_term.specs.declared.term.Term.{Term as Tree};
+ghost use Rattle.iv_term.specs.declared.term.Term.TheBlock.{Nil};
+ghost use Rattle.iv_term.specs.Hyps.{union};
+ghost use Rattle.iv_term.specs.Term.{IsImplication, antecedent, consequent, tm_cons};
 ghost use Rattle.iv_rules.specs.Sequent.{AreProps};
 ghost use Rattle.iv_rules.specs.Rules.{axioms_of};
 ghost use Rattle.iv_kernel.specs.Goal.{goal_prop, premises_of, IsGoalProp};
@@ -75,6 +78,19 @@ fn order(alloc: Global, goal: &Goal, from: u32, to: u32) -> Mem<Terms>
     with_at(alloc, &others, to - 1, goal.subgoal(from))
 }
 
+/// What a theorem concludes from its first premise, with that as a hypothesis.
+fn first_assumed(alloc: Global, thm: &Thm) -> Mem<Thm>
+    requires { IsImplication thm.now.prop }
+    ensures prop { IfOk result (λ t. t.prop ≡ consequent thm.now.prop) }
+    ensures hyps { IfOk result (λ t. t.hyps ≡ union thm.now.hyps (tm_cons (antecedent thm.now.prop) Nil)) }
+    ensures axioms { IfOk result (λ t. axioms_of t.derivation ≡ axioms_of thm.now.derivation) }
+    ensures memory { IfErr result (λ w. w ≡ Memory) }
+{
+    parts_of_propositions();
+    let assumed = Thm::assume(alloc, thm.prop().antecedent())?;
+    Thm::imp_elim(alloc, thm, &assumed)
+}
+
 /// The claim, with the premises of a theorem, of which there are `count`, as hypotheses.
 fn opened(alloc: Global, thm: Thm, count: u32, claim: &Term) -> Mem<Thm>
     requires { IsGoalProp count thm.prop claim.now }
@@ -86,9 +102,7 @@ fn opened(alloc: Global, thm: Thm, count: u32, claim: &Term) -> Mem<Thm>
     if count == 0 {
         return Ok(thm);
     }
-    parts_of_propositions();
-    let assumed = Thm::assume(alloc, thm.prop().antecedent())?;
-    let next = Thm::imp_elim(alloc, &thm, &assumed)?;
+    let next = first_assumed(alloc, &thm)?;
     opened(alloc, next, count - 1, claim)
 }
 

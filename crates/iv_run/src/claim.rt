@@ -1,8 +1,10 @@
-ghost use Rattle.std.specs.Prelude.{◌≡◌, true, false, IfOk, IfErr, MatchOption};
+ghost use Rattle.std.specs.Prelude.{◌≡◌, true, false, [], ◌∷◌, IfOk, IfErr, MatchOption};
 ghost use Rattle.iv_text.specs.declared.want.Want.TheVariants.{Memory};
+ghost use Rattle.iv_term.specs.declared.term.Term.TheBlock.{Nil};
+ghost use Rattle.iv_rules.specs.Rules.{axioms_of};
 ghost use Rattle.iv_run.specs.Closed.{IsClosed};
 ghost use Rattle.iv_run.specs.Open.{IsOpen};
-ghost use Rattle.iv_run.specs.Statement.{schematic_var, statement_of, is_solved};
+ghost use Rattle.iv_run.specs.Statement.{free_var, schematic_var, statement_of, is_solved};
 
 use crate::prove::{from_conclusion, generalised};
 use crate::statement;
@@ -23,6 +25,20 @@ pub struct Claim {
     pub goal: Goal,
 }
 
+/// The goal of a statement, which has it as its only subgoal. Fails where memory runs out.
+fn goal_of(alloc: Global, parts: &Parts) -> Mem<Goal>
+    ensures claim { IfOk result (λ g. g.claim ≡ statement_of free_var parts.now) }
+    ensures subgoals { IfOk result (λ g. g.subgoals ≡ statement_of free_var parts.now ∷ []) }
+    ensures hyps { IfOk result (λ g. g.thm.hyps ≡ Nil) }
+    ensures axioms { IfOk result (λ g. axioms_of g.thm.derivation ≡ []) }
+    ensures memory { IfErr result (λ w. w ≡ Memory) }
+{
+    parts_of_propositions();
+    let (premises, conclusion) = parts.split();
+    let claim = statement::statement(alloc, premises, conclusion)?;
+    Goal::init(alloc, &claim)
+}
+
 impl Claim {
     /// A statement as a claim with itself as the only subgoal. Fails where memory runs out.
     pub fn open(alloc: Global, label: &Text, parts: &Parts) -> Mem<Claim>
@@ -31,13 +47,30 @@ impl Claim {
         ensures open { IfOk result (λ c. IsOpen c) }
         ensures memory { IfErr result (λ w. w ≡ Memory) }
     {
-        parts_of_propositions();
-        let (premises, conclusion) = parts.split();
-        let claim = statement::statement(alloc, premises, conclusion)?;
-        let goal = Goal::init(alloc, &claim)?;
         let label = label.copy()?;
-        let parts = parts.copy()?;
-        Ok(Claim { label, parts, goal })
+        let own = parts.copy()?;
+        let goal = goal_of(alloc, parts)?;
+        Ok(Claim {
+            label,
+            parts: own,
+            goal,
+        })
+    }
+
+    /// A statement that has its conclusion as a premise, as a theorem over its free variables. Fails where memory runs out.
+    fn discharged(&self, alloc: Global) -> Mem<Thm>
+        requires open { IsOpen self.now }
+        requires solved { is_solved self.now.parts ≡ true }
+        ensures prop { IfOk result (λ t. t.prop ≡ statement_of free_var self.now.parts) }
+        ensures hyps { IfOk result (λ t. t.hyps ≡ Nil) }
+        ensures axioms { IfOk result (λ t. axioms_of t.derivation ≡ []) }
+        ensures memory { IfErr result (λ w. w ≡ Memory) }
+    {
+        let (premises, conclusion) = self.parts.split();
+        let solved = from_conclusion(alloc, premises, conclusion)?;
+        let thm = Thm::imp_elim(alloc, self.goal.thm(), &solved)?;
+        let goal = Goal::made(thm, 0, self.goal.claim())?;
+        Ok(goal.finish())
     }
 
     /// The theorem of a statement that has its conclusion as a premise, with its free variables schematic; `None` where no
@@ -53,10 +86,8 @@ impl Claim {
         if !statement::is_solved(premises, conclusion) {
             return Ok(None);
         }
-        let solved = from_conclusion(alloc, premises, conclusion)?;
-        let thm = Thm::imp_elim(alloc, self.goal.thm(), &solved)?;
-        let goal = Goal::made(thm, 0, self.goal.claim())?;
-        let proved = generalised(alloc, &goal.finish(), premises, conclusion)?;
+        let thm = self.discharged(alloc)?;
+        let proved = generalised(alloc, &thm, premises, conclusion)?;
         let _kept = proved.derivation();
         Ok(Some(proved))
     }

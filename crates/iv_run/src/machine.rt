@@ -3,7 +3,7 @@ ghost use Rattle.std.specs.Str.{bytes_eq};
 ghost use Rattle.iv_run.specs.Machine.{start, Theory, executed, is_pure, other_import, header_row, header_at, prose_at, lemma_row, lemma_at, by_at, oops_at, end_at, theorem_of, Accepted, Refused};
 ghost use Rattle.iv_run.specs.Run.{is_ended};
 ghost use Rattle.iv_run.specs.Closed.{IsClosed};
-ghost use Rattle.iv_run.specs.Sound.{IsSound, machine_of, stage_of, seen};
+ghost use Rattle.iv_run.specs.Sound.{IsSound, IsPhaseSound, machine_of, stage_of, seen};
 
 use crate::claim::Claim;
 use crate::names::Names;
@@ -116,6 +116,16 @@ impl Vm {
         }
     }
 
+    /// Goes on to a phase.
+    fn enter(&mut self, phase: Phase)
+        requires sound { IsSound self.old }
+        requires phase { IsPhaseSound phase }
+        ensures state { machine_of self.new ≡ record { stage = stage_of phase; finished = map seen self.old.theorems } }
+        ensures sound { IsSound self.new }
+    {
+        self.phase = phase;
+    }
+
     /// Begins the theory.
     fn header(&mut self, imports: &Items<Text>) -> Result<(), Refusal>
         requires { IsSound self.old }
@@ -143,7 +153,7 @@ impl Vm {
         match other_import(imports) {
             Some(name) => Err(Refusal::Name(name.copy()?)),
             None => {
-                self.phase = Phase::Theory;
+                self.enter(Phase::Theory);
                 Ok(())
             }
         }
@@ -190,7 +200,7 @@ impl Vm {
             return Err(Refusal::Name(name.copy()?));
         }
         let claim = Claim::open(self.alloc, name, parts)?;
-        self.phase = Phase::Prove(claim);
+        self.enter(Phase::Prove(claim));
         Ok(())
     }
 
@@ -234,7 +244,7 @@ impl Vm {
             let _last = self.theorems.pop();
             return Err(Refusal::from(want));
         }
-        self.phase = Phase::Theory;
+        self.enter(Phase::Theory);
         Ok(())
     }
 
@@ -248,7 +258,7 @@ impl Vm {
     {
         match &self.phase {
             Phase::Prove(_claim) => {
-                self.phase = Phase::Theory;
+                self.enter(Phase::Theory);
                 Ok(())
             }
             Phase::Start => Err(Refusal::Mode(Mode::Start)),
@@ -267,11 +277,11 @@ impl Vm {
     {
         match &self.phase {
             Phase::Start => {
-                self.phase = Phase::Ended;
+                self.enter(Phase::Ended);
                 Ok(())
             }
             Phase::Theory => {
-                self.phase = Phase::Ended;
+                self.enter(Phase::Ended);
                 Ok(())
             }
             Phase::Prove(_claim) => Err(Refusal::Mode(Mode::Prove)),

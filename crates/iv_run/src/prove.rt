@@ -1,6 +1,8 @@
 ghost use Rattle.std.specs.Prelude.{◌≡◌, [], ◌∷◌, ◌++◌, IfOk, IfErr};
 ghost use Rattle.iv_text.specs.declared.want.Want.TheVariants.{Memory};
 ghost use Rattle.iv_term.specs.declared.term.Term.TheBlock.{Nil};
+ghost use Rattle.iv_term.specs.Hyps.{without};
+ghost use Rattle.iv_term.specs.Term.{imp, tm_cons};
 ghost use Rattle.iv_rules.specs.Rules.{axioms_of};
 ghost use Rattle.iv_run.specs.Statement.{free_var, schematic_var, statement_of, with_entry, with_entries, general, open_hyps};
 
@@ -11,6 +13,28 @@ use iv_term::Typ;
 use iv_text::{Mem, Text};
 use std::alloc::Global;
 
+/// The theorem that a variable follows from itself. Fails where memory runs out.
+fn assumed(alloc: Global, text: &Text) -> Mem<Thm>
+    ensures prop { IfOk result (λ t. t.prop ≡ free_var text.now) }
+    ensures hyps { IfOk result (λ t. t.hyps ≡ tm_cons (free_var text.now) Nil) }
+    ensures axioms { IfOk result (λ t. axioms_of t.derivation ≡ []) }
+    ensures memory { IfErr result (λ w. w ≡ Memory) }
+{
+    let variable = free_var(alloc, text)?;
+    Thm::assume(alloc, &variable)
+}
+
+/// A theorem with a variable as one premise more, which is no hypothesis any more. Fails where memory runs out.
+fn discharged(alloc: Global, text: &Text, thm: &Thm) -> Mem<Thm>
+    ensures prop { IfOk result (λ t. t.prop ≡ imp (free_var text.now) thm.now.prop) }
+    ensures hyps { IfOk result (λ t. t.hyps ≡ without (free_var text.now) thm.now.hyps) }
+    ensures axioms { IfOk result (λ t. axioms_of t.derivation ≡ axioms_of thm.now.derivation) }
+    ensures memory { IfErr result (λ w. w ≡ Memory) }
+{
+    let variable = free_var(alloc, text)?;
+    Thm::imp_intr(alloc, &variable, thm)
+}
+
 /// The theorem that a statement follows from its conclusion, which is no hypothesis any more where it is a
 /// premise too. Fails where memory runs out.
 pub fn from_conclusion(alloc: Global, premises: &[Text], conclusion: &Text) -> Mem<Thm>
@@ -19,13 +43,11 @@ pub fn from_conclusion(alloc: Global, premises: &[Text], conclusion: &Text) -> M
     ensures axioms { IfOk result (λ t. axioms_of t.derivation ≡ []) }
     ensures memory { IfErr result (λ w. w ≡ Memory) }
 {
-    let assumed = free_var(alloc, conclusion)?;
-    let mut thm = Thm::assume(alloc, &assumed)?;
+    let mut thm = assumed(alloc, conclusion)?;
     let mut at = premises.len();
     'premises: while at > 0 {
         at -= 1;
-        let premise = free_var(alloc, &premises[at])?;
-        thm = Thm::imp_intr(alloc, &premise, &thm)?;
+        thm = discharged(alloc, &premises[at], &thm)?;
     }
     Ok(thm)
 }

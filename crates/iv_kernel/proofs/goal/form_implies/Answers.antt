@@ -5,12 +5,6 @@ use Rattle.iv_kernel.proofs.Results.{known, no-number}
 use Rattle.iv_kernel.proofs.Goals.{without-only}
 use Rattle.iv_kernel.proofs.goal.form_implies.Goals as goal
 
-pub assume-requires : goal.assume-requires
-assume-requires c = rw c.in_ok-form.ensures.ok (c.hhf_is_a_normal_form.ensures.typed _ _ _ c.requires)
-
-pub conv-requires : goal.conv-requires
-conv-requires c = (c.requires, rw (c.in_ok-assumed.ensures.prop, c.in_ok-form.ensures.ok) (c.hhf_is_a_normal_form.ensures.once _ _ c.requires.0))
-
 pub imp_intr-requires : goal.imp_intr-requires
 imp_intr-requires c = rw c.in_ok-form.ensures.ok (c.hhf_is_a_normal_form.ensures.typed _ _ _ c.requires)
 
@@ -21,12 +15,12 @@ returns-clause-prop c =
 pub returns-clause-hyps : goal.returns-clause-hyps
 returns-clause-hyps c =
     known {T = Proved} _ (λ z. z.hyps) _ _ c.imp_intr.ensures.hyps
-    (rw (c.in_ok-concluded.ensures.hyps, c.in_ok-assumed.ensures.hyps) (without-only c.hypotheses_are_told_apart.ensures _))
+    (rw c.in_ok-concluded.ensures.hyps (without-only c.hypotheses_are_told_apart.ensures _))
 
 pub returns-clause-derivation : goal.returns-clause-derivation
 returns-clause-derivation c =
     known {T = Proved} _ (λ z. z.derivation) _ _ c.imp_intr.ensures.derivation
-    (rw (c.in_ok-concluded.ensures.derivation, c.in_ok-assumed.ensures.derivation, c.in_ok-form.ensures.ok) refl)
+    (rw (c.in_ok-concluded.ensures.derivation, c.in_ok-form.ensures.ok) refl)
 
 pub returns-clause-number : goal.returns-clause-number
 returns-clause-number c = no-number _ _ c.imp_intr.ensures.memory

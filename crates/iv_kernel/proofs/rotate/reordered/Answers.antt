@@ -1,4 +1,4 @@
-use Rattle.std.proofs.Common.{◌≡◌, ◌∙◌, ap, ◌++◌}
+use Rattle.std.proofs.Common.{◌∙◌, ap, ◌++◌}
 use Rattle.iv_rules.specs.Rules.{Proved, axioms_of}
 use Rattle.iv_kernel.proofs.Results.{known}
 use Rattle.iv_kernel.specs.Goal.{goal_prop}

@@ -4,12 +4,12 @@ use Rattle.iv_kernel.specs.declared.theorems.NamedThm.{NamedThm}
 use Rattle.iv_run.proofs.MachineSteps.{AllClosed-push, names-push}
 use Rattle.iv_run.proofs.machine.Vm.keep.Goals as goal
 
-pub returns-clause-sound : goal.returns-clause-sound
-returns-clause-sound c =
+pub enter-requires-clause-sound : goal.enter-requires-clause-sound
+enter-requires-clause-sound c =
     let n : NamedThm = record { name = Some c.args.label; thm = c.args.thm } in
     rw c.in_ok-push.ensures.ok
     (record {
       closed = AllClosed-push _ _ c.requires.sound.closed c.requires.closed;
       names = λ q. rw c.in_ok-name.ensures.ok at (c.in_default.ensures.ok q) ∙ names-push q c.args.label _ c.args.self.now.theorems n (c.requires.sound.names q) refl;
-      claim = tt;
+      claim = c.requires.sound.claim;
     })
