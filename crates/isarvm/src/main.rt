@@ -28,20 +28,21 @@ fn words(rt: &(impl Env + AllocGlobal)) -> Result<Vec<String>, Status> {
     }
 }
 
+/// Runs the document of standard input, writes to standard output, and lets the theorems go.
+fn run(rt: &HostRuntime, words: &[String]) -> Status {
+    let mut source = StdSource::new(rt.reader());
+    let mut sink = StdSink::new(writer(rt));
+    let mut proved = Theorems::new(rt.alloc());
+    let status = run_isar(rt.alloc(), words, &mut source, &mut sink, &mut proved);
+    drop(proved);
+    drop(sink);
+    drop(source);
+    status
+}
+
 fn main(rt: HostRuntime) -> ExitCode {
     let status = match words(&rt) {
-        Ok(words) => {
-            let mut source = StdSource::new(rt.reader());
-            let mut sink = StdSink::new(writer(&rt));
-            let mut proved = Theorems::new(rt.alloc());
-            run_isar(
-                rt.alloc(),
-                words.as_slice(),
-                &mut source,
-                &mut sink,
-                &mut proved,
-            )
-        }
+        Ok(words) => run(&rt, words.as_slice()),
         Err(status) => status,
     };
     if status == Status::Usage {

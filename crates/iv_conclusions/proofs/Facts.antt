@@ -16,7 +16,6 @@ use Rattle.iv_term.specs.declared.term.Term.TheBlock.{Spine, Nil}
 use Rattle.iv_term.specs.Term.{tm_cons}
 use Rattle.iv_hsub.specs.Typing.{HasType}
 use Rattle.iv_hsub.specs.Hsub.{happ}
-use Rattle.iv_hsub.specs.Made.{made_happ, made_use}
 use Rattle.iv_hsub.specs.Inst.{use_value}
 use Rattle.iv_hsub.specs.Open.{AreShort, AreOpenTerms}
 use Rattle.iv_hsub.proofs.Terms.Short.{short-term}
@@ -53,8 +52,8 @@ pub without-value : (o : Option Term) (h : Head) (a : Typ) → o ≡ None → (u
 without-value o h a e us = ap (λ z. use_value z h a us) e
 
 pub with-value : (o : Option Term) (h : Head) (a : Typ) (v : Term) → o ≡ Some v
-    → (us : Terms) → (use_value o h a us ≡ happ a v us) × (made_use o a us ≡ made_happ a v us)
-with-value o h a v e us = (ap (λ z. use_value z h a us) e, ap (λ z. made_use z a us) e)
+    → (us : Terms) → use_value o h a us ≡ happ a v us
+with-value o h a v e us = ap (λ z. use_value z h a us) e
 
 -- whether a look-up found something
 pub found-some : {A : Type 0} (o : Option (Bor A)) (p : Option A) → option_copied o ≡ p → is_some o ≡ is_some p

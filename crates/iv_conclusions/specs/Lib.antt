@@ -1,3 +1,2 @@
 pub mod Quantified
-pub mod Made
 pub mod Laws

@@ -1,7 +1,6 @@
 //! Tests of what the rules ask of their arguments and premises. None takes memory, but for [`have_one_form`].
 ghost use Rattle.std.specs.Prelude.{◌≡◌, ◌++◌, IfOk, IfErr, IsTrue, ◌↔◌};
-ghost use Rattle.iv_text.specs.declared.want.Want.TheVariants.{Number};
-ghost use Rattle.iv_hsub.specs.Made.{IsPast, made_hhf};
+ghost use Rattle.iv_text.specs.declared.want.Want.TheVariants.{Memory};
 ghost use Rattle.iv_hsub.specs.Hhf.{hhf};
 ghost use Rattle.iv_term.specs.Term.{imp};
 ghost use Rattle.iv_rules.specs.Equality.{rhs, eq};
@@ -77,31 +76,33 @@ pub fn is_equal_to(p: &Term, q: &Term) -> bool
     side_type(p).is_prop() && lhs(p).is(q)
 }
 
-/// Whether a term with each `!!` in front of `==>` is this one. Fails where memory runs out; with `Number` only where an
-/// index or a depth that is made on the way is 4,294,967,295 or more.
+/// Whether a term with each `!!` in front of `==>` is this one. Fails where memory runs out.
 fn has_form(alloc: Global, p: &Term, form: &Term) -> Mem<bool>
     ensures ok { IfOk result (λ b. IsTrue b ↔ (hhf p.now ≡ form.now)) }
-    ensures number { IfErr result (λ w. w ≡ Number → IsPast (made_hhf p.now)) }
+    ensures memory { IfErr result (λ w. w ≡ Memory) }
 {
     let own = hhf(alloc, p)?;
-    Ok(own.is(form))
+    let is_same = own.is(form);
+    drop(own);
+    Ok(is_same)
 }
 
-/// Whether two terms have one form with each `!!` in front of `==>`. Fails where memory runs out; with `Number` only where
-/// an index or a depth that is made on the way is 4,294,967,295 or more.
+/// Whether two terms have one form with each `!!` in front of `==>`. Fails where memory runs out.
 fn are_one_form(alloc: Global, p: &Term, q: &Term) -> Mem<bool>
     ensures ok { IfOk result (λ b. IsTrue b ↔ (hhf p.now ≡ hhf q.now)) }
-    ensures number { IfErr result (λ w. w ≡ Number → IsPast (made_hhf p.now ++ made_hhf q.now)) }
+    ensures memory { IfErr result (λ w. w ≡ Memory) }
 {
     let form = hhf(alloc, q)?;
-    has_form(alloc, p, &form)
+    let told = has_form(alloc, p, &form);
+    drop(form);
+    told
 }
 
 /// Whether the first is a proposition of one form with the second, with each `!!` in front of `==>`. Fails where memory
-/// runs out; with `Number` only where an index or a depth that is made on the way is 4,294,967,295 or more.
+/// runs out.
 pub fn have_one_form(alloc: Global, prop: &Term, p: &Term) -> Mem<bool>
     ensures ok { IfOk result (λ b. IsTrue b ↔ CanConv prop.now p.now) }
-    ensures number { IfErr result (λ w. w ≡ Number → IsPast (made_hhf p.now ++ made_hhf prop.now)) }
+    ensures memory { IfErr result (λ w. w ≡ Memory) }
 {
     if !is_prop(prop) {
         return Ok(false);

@@ -3,14 +3,12 @@ ghost use Rattle.std.specs.Prelude.{◌≡◌, MatchOption, IfOk, IfErr};
 ghost use Rattle.std.specs.Option.{unwrap_or};
 ghost use Rattle.iv_term.specs.declared.term.Terms.{Terms};
 ghost use Rattle.iv_term.specs.declared.term.Term.TheBlock.{Spine};
-ghost use Rattle.iv_text.specs.declared.want.Want.TheVariants.{Number};
+ghost use Rattle.iv_text.specs.declared.want.Want.TheVariants.{Memory};
 ghost use Rattle.iv_hsub.specs.Hsub.{happ};
-ghost use Rattle.iv_hsub.specs.Made.{IsPast, made_happ, made_inst_head};
 ghost use Rattle.iv_hsub.specs.Retype.{retype_head};
 ghost use Rattle.iv_hsub.specs.Inst.{inst_head};
 ghost use Rattle.iv_hsub.specs.Open.{IsOpenTerm, IsShort, AreShort, AreOpenTerms};
 ghost use Rattle.iv_rules.specs.Instance.{types_of, values_of, instanced, instanced_all, instanced_hyps};
-ghost use Rattle.iv_conclusions.specs.Made.{made_instanced, made_instanced_all};
 
 use crate::types::changed_head;
 use iv_hsub::contraction::with_body;
@@ -21,13 +19,12 @@ use iv_term::{Head, Term, Terms, Typ};
 use iv_text::{Mem, new_or_copy};
 use std::alloc::Global;
 
-/// A term with the types of an instance put in it, and then all its terms at once, by hereditary substitution. What isn't
-/// touched is shared. Fails where memory runs out; with `Number` only where an index or a depth that is made on the way
-/// is 4,294,967,295 or more.
+/// A term with the types of an instance put in it, and then all its terms at once, by hereditary substitution. What
+/// isn't touched is shared. Fails where memory runs out.
 pub fn instanced(alloc: Global, s: &Instance, t: &Term) -> Mem<Term>
     requires { IsOpenTerm t.now }
     ensures ok { IfOk result (λ r. r ≡ instanced s.now t.now) }
-    ensures number { IfErr result (λ w. w ≡ Number → IsPast (made_instanced s.now t.now)) }
+    ensures memory { IfErr result (λ w. w ≡ Memory) }
 {
     match changed(alloc, t, s)? {
         None => t.copy(),
@@ -35,12 +32,12 @@ pub fn instanced(alloc: Global, s: &Instance, t: &Term) -> Mem<Term>
     }
 }
 
-/// Hypotheses under an instance; those that become equal are kept once, at the first place. Fails where memory runs out;
-/// with `Number` only where an index or a depth that is made on the way is 4,294,967,295 or more.
+/// Hypotheses under an instance; those that become equal are kept once, at the first place. Fails where memory runs
+/// out.
 pub fn instanced_hyps(alloc: Global, s: &Instance, hs: &Terms) -> Mem<Terms>
     requires { AreOpenTerms hs.now }
     ensures ok { IfOk result (λ r. r ≡ instanced_hyps s.now hs.now) }
-    ensures number { IfErr result (λ w. w ≡ Number → IsPast (made_instanced_all s.now hs.now)) }
+    ensures memory { IfErr result (λ w. w ≡ Memory) }
 {
     match changed_all(alloc, hs, s)? {
         None => Terms::Nil.union(alloc, hs),
@@ -52,7 +49,7 @@ pub fn instanced_hyps(alloc: Global, s: &Instance, hs: &Terms) -> Mem<Terms>
 #[cycle(changed)]
 fn changed(alloc: Global, t: &Term, s: &Instance) -> Mem<Option<Term>>
     ensures ok { IsShort t.now → IfOk result (λ r. unwrap_or r t.now ≡ instanced s.now t.now) }
-    ensures number { IsShort t.now → IfErr result (λ w. w ≡ Number → IsPast (made_instanced s.now t.now)) }
+    ensures memory { IfErr result (λ w. w ≡ Memory) }
 {
     match t {
         Term::Abs(a, b) => {
@@ -71,7 +68,7 @@ fn changed(alloc: Global, t: &Term, s: &Instance) -> Mem<Option<Term>>
 #[cycle(changed)]
 fn changed_all(alloc: Global, ts: &Terms, s: &Instance) -> Mem<Option<Terms>>
     ensures ok { AreShort ts.now → IfOk result (λ r. unwrap_or r ts.now ≡ instanced_all s.now ts.now) }
-    ensures number { AreShort ts.now → IfErr result (λ w. w ≡ Number → IsPast (made_instanced_all s.now ts.now)) }
+    ensures memory { IfErr result (λ w. w ≡ Memory) }
 {
     match ts {
         Terms::Nil => Ok(None),
@@ -93,7 +90,7 @@ fn with_head(
     s: &Instance,
 ) -> Mem<Option<Term>>
     ensures ok { IfOk result (λ r. unwrap_or r (Spine h.now old.now) ≡ inst_head (values_of s.now) (retype_head (types_of s.now) h.now) (unwrap_or args old.now)) }
-    ensures number { IfErr result (λ w. w ≡ Number → IsPast (made_inst_head (values_of s.now) (retype_head (types_of s.now) h.now) (unwrap_or args old.now))) }
+    ensures memory { IfErr result (λ w. w ≡ Memory) }
 {
     let head = changed_head(alloc, h, s)?;
     match value_at(s, new_or_old(&head, h)) {
@@ -120,8 +117,7 @@ fn new_or_old<'a>(new: &'a Option<Head>, old: &'a Head) -> &'a Head
 fn value_at<'a>(s: &'a Instance, h: &'a Head) -> Option<(&'a Term, &'a Typ)>
     ensures { MatchOption result
         ((us : Terms) → inst_head (values_of s.now) h.now us ≡ Spine h.now us)
-        (λ r. (us : Terms) → (inst_head (values_of s.now) h.now us ≡ happ r.1.now r.0.now us)
-        × (made_inst_head (values_of s.now) h.now us ≡ made_happ r.1.now r.0.now us)) }
+        (λ r. (us : Terms) → inst_head (values_of s.now) h.now us ≡ happ r.1.now r.0.now us) }
 {
     match h {
         Head::Const(_c, _a) => None,

@@ -1,11 +1,10 @@
 //! Terms that are equations or quantified: built, told apart, and taken apart.
 ghost use Rattle.std.specs.Prelude.{◌≡◌, ℕ, List, IfOk, IfErr, IsTrue, ◌↔◌};
-ghost use Rattle.iv_text.specs.declared.want.Want.TheVariants.{Memory, Number};
+ghost use Rattle.iv_text.specs.declared.want.Want.TheVariants.{Memory};
 ghost use Rattle.iv_term.specs.declared.typ.Typ.{Typ};
 ghost use Rattle.iv_term.specs.declared.term.Head.TheVariants.{Const};
 ghost use Rattle.iv_term.specs.Typ.{prop, fun};
 ghost use Rattle.iv_hsub.specs.Typing.{dom, cod};
-ghost use Rattle.iv_hsub.specs.Made.{IsPast, made_happ};
 ghost use Rattle.iv_term.specs.Term.{tm_cons};
 ghost use Rattle.iv_term.specs.declared.term.Term.TheBlock.{Nil};
 ghost use Rattle.iv_hsub.specs.Hhf.{all_head, one};
@@ -15,7 +14,7 @@ ghost use Rattle.iv_conclusions.specs.Quantified.{predicate_type, IsQuantified};
 use iv_hsub::constants::{all_typ, eq_typ};
 use iv_hsub::happ;
 use iv_hsub::typing::{cod, dom, is_fun};
-use iv_term::{Head, Term, Terms, Typ};
+use iv_term::{Head, Term, Terms, Typ, both};
 use iv_text::{Mem, Text};
 use std::alloc::Global;
 
@@ -24,8 +23,7 @@ pub(crate) fn arrow(alloc: Global, from: &Typ, to: &Typ) -> Mem<Typ>
     ensures ok { IfOk result (λ a. a ≡ fun from.now to.now) }
     ensures memory { IfErr result (λ w. w ≡ Memory) }
 {
-    let from = from.copy()?;
-    let to = to.copy()?;
+    let (from, to) = both(from.copy(), to.copy())?;
     Typ::fun(alloc, from, to)
 }
 
@@ -34,18 +32,16 @@ fn eq_head(alloc: Global, a: &Typ) -> Mem<Head>
     ensures ok { IfOk result (λ h. h ≡ eq_head a.now) }
     ensures memory { IfErr result (λ w. w ≡ Memory) }
 {
-    let typ = eq_typ(alloc, a)?;
-    let name = Text::from_slice(alloc, &['=', '='])?;
+    let (typ, name) = both(eq_typ(alloc, a), Text::from_slice(alloc, &['=', '=']))?;
     Ok(Head::Const(name, typ))
 }
 
 /// The list of two terms. Fails where memory runs out.
-fn both(alloc: Global, s: &Term, t: &Term) -> Mem<Terms>
+fn pair(alloc: Global, s: &Term, t: &Term) -> Mem<Terms>
     ensures ok { IfOk result (λ ts. ts ≡ tm_cons s.now (tm_cons t.now Nil)) }
     ensures memory { IfErr result (λ w. w ≡ Memory) }
 {
-    let last = Terms::only(alloc, t)?;
-    let first = s.copy()?;
+    let (last, first) = both(Terms::only(alloc, t), s.copy())?;
     Terms::cons(alloc, first, last)
 }
 
@@ -54,8 +50,7 @@ pub fn eq(alloc: Global, a: &Typ, s: &Term, t: &Term) -> Mem<Term>
     ensures ok { IfOk result (λ r. r ≡ eq a.now s.now t.now) }
     ensures memory { IfErr result (λ w. w ≡ Memory) }
 {
-    let head = eq_head(alloc, a)?;
-    let sides = both(alloc, s, t)?;
+    let (head, sides) = both(eq_head(alloc, a), pair(alloc, s, t))?;
     Ok(Term::Spine(head, sides))
 }
 
@@ -64,8 +59,7 @@ fn all_head(alloc: Global, a: &Typ) -> Mem<Head>
     ensures ok { IfOk result (λ h. h ≡ all_head a.now) }
     ensures memory { IfErr result (λ w. w ≡ Memory) }
 {
-    let typ = all_typ(alloc, a)?;
-    let name = Text::from_slice(alloc, &['!', '!'])?;
+    let (typ, name) = both(all_typ(alloc, a), Text::from_slice(alloc, &['!', '!']))?;
     Ok(Head::Const(name, typ))
 }
 
@@ -74,19 +68,19 @@ pub fn all(alloc: Global, a: &Typ, f: &Term) -> Mem<Term>
     ensures ok { IfOk result (λ r. r ≡ all a.now f.now) }
     ensures memory { IfErr result (λ w. w ≡ Memory) }
 {
-    let head = all_head(alloc, a)?;
-    let args = Terms::only(alloc, f)?;
+    let (head, args) = both(all_head(alloc, a), Terms::only(alloc, f))?;
     Ok(Term::Spine(head, args))
 }
 
-/// `f x`, where f is of type `c`. Fails where memory runs out; with `Number` only where an index or a depth that is made
-/// on the way is 4,294,967,295 or more.
+/// `f x`, where f is of type `c`. Fails where memory runs out.
 pub fn app(alloc: Global, c: &Typ, f: &Term, x: &Term) -> Mem<Term>
     ensures ok { IfOk result (λ r. r ≡ app c.now f.now x.now) }
-    ensures number { IfErr result (λ w. w ≡ Number → IsPast (made_happ c.now f.now (one x.now))) }
+    ensures memory { IfErr result (λ w. w ≡ Memory) }
 {
     let args = Terms::only(alloc, x)?;
-    happ(alloc, f, c, &args)
+    let made = happ(alloc, f, c, &args);
+    drop(args);
+    made
 }
 
 /// Whether a type is one of functions that take terms of type `d`.

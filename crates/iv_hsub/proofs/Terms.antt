@@ -2,10 +2,9 @@ pub mod Base
 pub mod Raise
 pub mod Eta
 pub mod Put
-pub mod Past
 pub mod Types
 pub mod Tests
-pub mod Made
+pub mod Steps
 pub mod Closed
 pub mod Cancel
 pub mod Abstract

@@ -4,7 +4,6 @@ pub mod Hsub
 pub mod Open
 pub mod Retype
 pub mod Inst
-pub mod Made
 pub mod Bounds
 pub mod Abstract
 pub mod Hhf

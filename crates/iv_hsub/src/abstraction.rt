@@ -2,9 +2,8 @@
 ghost use Rattle.std.specs.Prelude.{◌≡◌, IfOk, IfErr};
 ghost use Rattle.iv_term.specs.Term.{is_free};
 ghost use Rattle.iv_term.specs.declared.term.Head.TheVariants.{Free};
-ghost use Rattle.iv_text.specs.declared.want.Want.TheVariants.{Memory, Number};
+ghost use Rattle.iv_text.specs.declared.want.Want.TheVariants.{Memory};
 ghost use Rattle.iv_hsub.specs.Abstract.{bind_head, bind, bind_all, abstract_over};
-ghost use Rattle.iv_hsub.specs.Made.{IsPast, made_raise_head, made_raise, made_raise_all};
 
 use crate::contraction::eta;
 use crate::raising::{abs, raise_head, sum};
@@ -22,7 +21,7 @@ fn is_same(x: &Name, a: &Typ, y: &Name, b: &Typ) -> bool
 /// A head with the index `k` in the place of a free variable.
 fn bind_head(h: &Head, x: &Name, a: &Typ, k: u32) -> Mem<Head>
     ensures ok { IfOk result (λ r. r ≡ bind_head x.now a.now k h.now) }
-    ensures number { IfErr result (λ w. w ≡ Number → IsPast (made_raise_head 1 k h.now)) }
+    ensures memory { IfErr result (λ w. w ≡ Memory) }
 {
     match h {
         Head::Free(y, b) => {
@@ -42,7 +41,7 @@ fn bind_head(h: &Head, x: &Name, a: &Typ, k: u32) -> Mem<Head>
 #[cycle(bind)]
 fn bind(alloc: Global, t: &Term, x: &Name, a: &Typ, k: u32) -> Mem<Term>
     ensures ok { IfOk result (λ r. r ≡ bind x.now a.now k t.now) }
-    ensures number { IfErr result (λ w. w ≡ Number → IsPast (made_raise 1 k t.now)) }
+    ensures memory { IfErr result (λ w. w ≡ Memory) }
 {
     match t {
         Term::Abs(b, u) => {
@@ -61,24 +60,23 @@ fn bind(alloc: Global, t: &Term, x: &Name, a: &Typ, k: u32) -> Mem<Term>
 #[cycle(bind)]
 fn bind_all(alloc: Global, ts: &Terms, x: &Name, a: &Typ, k: u32) -> Mem<Terms>
     ensures ok { IfOk result (λ r. r ≡ bind_all x.now a.now k ts.now) }
-    ensures number { IfErr result (λ w. w ≡ Number → IsPast (made_raise_all 1 k ts.now)) }
+    ensures memory { IfErr result (λ w. w ≡ Memory) }
 {
     match ts {
         Terms::Nil => Ok(Terms::Nil),
         Terms::Cons(t, rest) => {
-            let first = bind(alloc, t.get(), x, a, k)?;
             let more = bind_all(alloc, rest.get(), x, a, k)?;
+            let first = bind(alloc, t.get(), x, a, k)?;
             Terms::cons(alloc, first, more)
         }
     }
 }
 
-/// The abstraction of a term over its free variable of this name and type, contracted where it can be. A
-/// variable of the name and another type stays. Fails where memory runs out; with `Number` only where an index or a
-/// depth that is made on the way is 4,294,967,295 or more.
+/// The abstraction of a term over its free variable of this name and type, contracted where it can be. A variable of
+/// the name and another type stays. Fails where memory runs out.
 pub fn abstract_over(alloc: Global, t: &Term, name: &Name, typ: &Typ) -> Mem<Term>
     ensures ok { IfOk result (λ r. r ≡ abstract_over name.now typ.now t.now) }
-    ensures number { IfErr result (λ w. w ≡ Number → IsPast (made_raise 1 0 t.now)) }
+    ensures memory { IfErr result (λ w. w ≡ Memory) }
 {
     let body = bind(alloc, t, name, typ, 0)?;
     eta(alloc, typ, body)

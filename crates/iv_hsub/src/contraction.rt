@@ -1,5 +1,6 @@
-//! Abstractions that are contracted where they can be.
-ghost use Rattle.std.specs.Prelude.{◌≡◌, ◌≤◌, ◌+◌, ◌^◌, min, suc, ℕ, false, IfOk, IfErr};
+//! Abstractions that are contracted where they can be. What is looked at for the last time is dropped by a call, as a drop
+//! that isn't written is proved piece by piece.
+ghost use Rattle.std.specs.Prelude.{◌≡◌, ◌≤◌, ◌+◌, ◌^◌, min, suc, ℕ, false, Some, IfOk, IfErr};
 ghost use Rattle.std.specs.Option.{unwrap_or};
 ghost use Rattle.iv_term.specs.Term.{lam};
 ghost use Rattle.iv_text.specs.declared.want.Want.TheVariants.{Memory};
@@ -181,8 +182,8 @@ fn lower_all(alloc: Global, ts: &Terms, depth: u64) -> Mem<Terms>
     match ts {
         Terms::Nil => Ok(Terms::Nil),
         Terms::Cons(t, rest) => {
-            let first = lower(alloc, t.get(), depth)?;
             let more = lower_all(alloc, rest.get(), depth)?;
+            let first = lower(alloc, t.get(), depth)?;
             Terms::cons(alloc, first, more)
         }
     }
@@ -199,8 +200,8 @@ fn lower_front(alloc: Global, ts: &Terms) -> Mem<Terms>
             if rest.get().is_nil() {
                 return Ok(Terms::Nil);
             }
-            let first = lower(alloc, t.get(), 0)?;
             let more = lower_front(alloc, rest.get())?;
+            let first = lower(alloc, t.get(), 0)?;
             Terms::cons(alloc, first, more)
         }
     }
@@ -226,10 +227,29 @@ pub fn eta(alloc: Global, a: &Typ, body: Term) -> Mem<Term>
     ensures memory { IfErr result (λ w. w ≡ Memory) }
 {
     if contracts(&body) {
-        contracted(alloc, &body)
+        let made = contracted(alloc, &body);
+        drop(body);
+        made
     } else {
         abs(alloc, a, body)
     }
+}
+
+/// The abstraction over a new body, contracted where it can be.
+fn with_new_body(alloc: Global, a: &Typ, body: Term) -> Mem<Option<Term>>
+    ensures ok { IfOk result (λ r. r ≡ Some (eta a.now body)) }
+    ensures memory { IfErr result (λ w. w ≡ Memory) }
+{
+    Ok(Some(eta(alloc, a, body)?))
+}
+
+/// The abstraction over a new type, contracted where it can be; the body may be new.
+fn with_new_typ(alloc: Global, a: &Typ, body: Option<Term>, old: &Shared<Term>) -> Mem<Option<Term>>
+    ensures ok { IfOk result (λ r. r ≡ Some (eta a.now (unwrap_or body old.now))) }
+    ensures memory { IfErr result (λ w. w ≡ Memory) }
+{
+    let body = new_or_copy(body, old.get())?;
+    with_new_body(alloc, a, body)
 }
 
 /// An abstraction where the type or the body may be new; the old one can't be contracted, and the new one is where it
@@ -247,11 +267,8 @@ pub fn with_body(
     match typ {
         None => match body {
             None => Ok(None),
-            Some(body) => Ok(Some(eta(alloc, a, body)?)),
+            Some(body) => with_new_body(alloc, a, body),
         },
-        Some(typ) => {
-            let body = new_or_copy(body, old.get())?;
-            Ok(Some(eta(alloc, &typ, body)?))
-        }
+        Some(typ) => with_new_typ(alloc, &typ, body, old),
     }
 }

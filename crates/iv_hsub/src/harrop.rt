@@ -7,17 +7,16 @@ ghost use Rattle.iv_term.specs.declared.term.Head.{Head};
 ghost use Rattle.iv_term.specs.declared.term.Term.{Term};
 ghost use Rattle.iv_term.specs.declared.term.Terms.{Terms};
 ghost use Rattle.iv_term.specs.declared.term.Term.TheBlock.{Spine};
-ghost use Rattle.iv_text.specs.declared.want.Want.TheVariants.{Memory, Number};
+ghost use Rattle.iv_text.specs.declared.want.Want.TheVariants.{Memory};
 ghost use Rattle.iv_term.specs.Typ.{prop, fun};
 ghost use Rattle.iv_hsub.specs.Typing.{dom};
 ghost use Rattle.iv_hsub.specs.Index.{index, raise, eta};
 ghost use Rattle.iv_hsub.specs.Hsub.{append};
 ghost use Rattle.iv_hsub.specs.Hhf.{all_typ, all_head, is_imp, is_all, bound_type, one, expand, all_of, push_expanded, push, push_args, push_under, hhf_spine, hhf, hhf_all, is_quantified};
-ghost use Rattle.iv_hsub.specs.Made.{IsPast, made_raise, made_raise_head, made_raise_all, made_push_expanded, made_push, made_push_args, made_push_under, made_hhf_spine, made_hhf, made_hhf_all};
 
 use crate::contraction::{contracts, eta};
 use crate::raising::{raise, raise_all, raise_head};
-use crate::substitution::append;
+use crate::substitution::{append, spine};
 use crate::typing::{cod, dom, is_fun};
 use iv_term::{Head, Term, Terms, Typ};
 use iv_text::Mem;
@@ -72,6 +71,17 @@ fn index(alloc: Global, n: u32) -> Mem<Terms>
     one(alloc, Term::Spine(Head::Bound(n), Terms::Nil))
 }
 
+/// An abstraction over propositions, contracted where it can be.
+fn over_prop(alloc: Global, body: Term) -> Mem<Term>
+    ensures ok { IfOk result (λ r. r ≡ eta prop body) }
+    ensures memory { IfErr result (λ w. w ≡ Memory) }
+{
+    let prop = Typ::prop(alloc)?;
+    let made = eta(alloc, &prop, body);
+    drop(prop);
+    made
+}
+
 /// An abstraction over the type that a `!!` binds over, contracted where it can be.
 fn bound_body(alloc: Global, h: &Head, body: Term) -> Mem<Term>
     ensures ok { IfOk result (λ r. r ≡ eta (bound_type h.now) body) }
@@ -79,7 +89,7 @@ fn bound_body(alloc: Global, h: &Head, body: Term) -> Mem<Term>
 {
     match h {
         Head::Const(_c, a) => eta(alloc, dom(dom(a)), body),
-        _ => eta(alloc, &Typ::prop(alloc)?, body),
+        _ => over_prop(alloc, body),
     }
 }
 
@@ -96,7 +106,7 @@ fn all_of(alloc: Global, h: &Head, body: Term) -> Mem<Term>
 /// The body of the abstraction that a head with arguments is for short.
 fn expand(alloc: Global, h: &Head, ts: &Terms) -> Mem<Term>
     ensures ok { IfOk result (λ r. r ≡ expand h.now ts.now) }
-    ensures number { IfErr result (λ w. w ≡ Number → IsPast (made_raise_head 1 0 h.now ++ made_raise_all 1 0 ts.now)) }
+    ensures memory { IfErr result (λ w. w ≡ Memory) }
 {
     let args = raise_all(alloc, ts, 1, 0)?;
     let head = raise_head(h, 1, 0)?;
@@ -104,28 +114,50 @@ fn expand(alloc: Global, h: &Head, ts: &Terms) -> Mem<Term>
     Ok(Term::Spine(head, append(alloc, &args, last)?))
 }
 
-/// A premise before a variable at another one.
+/// The variable around the innermost, at that one.
+fn outer_at_inner(alloc: Global) -> Mem<Term>
+    ensures ok { IfOk result (λ r. r ≡ Spine (Bound 1) (one (index 0))) }
+    ensures memory { IfErr result (λ w. w ≡ Memory) }
+{
+    Ok(Term::Spine(Head::Bound(1), index(alloc, 0)?))
+}
+
+/// A premise before that.
+fn imp_outer_at_inner(alloc: Global, premise: &Term) -> Mem<Term>
+    ensures ok { IfOk result (λ r. r ≡ imp premise.now (Spine (Bound 1) (one (index 0)))) }
+    ensures memory { IfErr result (λ w. w ≡ Memory) }
+{
+    let conclusion = outer_at_inner(alloc)?;
+    let made = Term::imp(alloc, premise, &conclusion);
+    drop(conclusion);
+    made
+}
+
+/// A premise before a variable at another one, which are both under one more binder.
 fn before_variable(alloc: Global, premise: &Term) -> Mem<Term>
     ensures ok { IfOk result (λ r. r ≡ imp (raise 1 0 premise.now) (Spine (Bound 1) (one (index 0)))) }
-    ensures number { IfErr result (λ w. w ≡ Number → IsPast (made_raise 1 0 premise.now)) }
+    ensures memory { IfErr result (λ w. w ≡ Memory) }
 {
     let premise = raise(alloc, premise, 1, 0)?;
-    let args = index(alloc, 0)?;
-    Term::imp(alloc, &premise, &Term::Spine(Head::Bound(1), args))
+    let made = imp_outer_at_inner(alloc, &premise);
+    drop(premise);
+    made
 }
 
 /// A premise before a head with arguments and the innermost variable behind them; where the head alone is
 /// `!!`, one more quantifier comes out.
 fn push_expanded(alloc: Global, h: &Head, ts: &Terms, premise: &Term) -> Mem<Term>
     ensures ok { IfOk result (λ r. r ≡ push_expanded premise.now h.now ts.now) }
-    ensures number { IfErr result (λ w. w ≡ Number → IsPast (made_push_expanded premise.now h.now ts.now)) }
+    ensures memory { IfErr result (λ w. w ≡ Memory) }
 {
     if is_all_alone(h, ts) {
         let body = before_variable(alloc, premise)?;
         all_of(alloc, h, body)
     } else {
         let b = expand(alloc, h, ts)?;
-        Term::imp(alloc, premise, &b)
+        let made = Term::imp(alloc, premise, &b);
+        drop(b);
+        made
     }
 }
 
@@ -134,15 +166,17 @@ fn plain_imp(alloc: Global, h: &Head, ts: &Terms, premise: &Term) -> Mem<Term>
     ensures ok { IfOk result (λ r. r ≡ imp premise.now (Spine h.now ts.now)) }
     ensures memory { IfErr result (λ w. w ≡ Memory) }
 {
-    let args = ts.copy()?;
-    Term::imp(alloc, premise, &Term::Spine(h.copy()?, args))
+    let conclusion = spine(h, ts)?;
+    let made = Term::imp(alloc, premise, &conclusion);
+    drop(conclusion);
+    made
 }
 
 /// `premise ==> b`, with each `!!` that `b` begins with in front.
 #[cycle(push)]
 fn push(alloc: Global, b: &Term, premise: &Term) -> Mem<Term>
     ensures ok { IfOk result (λ r. r ≡ push premise.now b.now) }
-    ensures number { IfErr result (λ w. w ≡ Number → IsPast (made_push premise.now b.now)) }
+    ensures memory { IfErr result (λ w. w ≡ Memory) }
 {
     match b {
         Term::Abs(_c, _t) => Term::imp(alloc, premise, b),
@@ -154,7 +188,7 @@ fn push(alloc: Global, b: &Term, premise: &Term) -> Mem<Term>
 #[cycle(push)]
 fn push_args(alloc: Global, ts: &Terms, h: &Head, premise: &Term) -> Mem<Term>
     ensures ok { IfOk result (λ r. r ≡ push_args premise.now h.now ts.now) }
-    ensures number { IfErr result (λ w. w ≡ Number → IsPast (made_push_args premise.now h.now ts.now)) }
+    ensures memory { IfErr result (λ w. w ≡ Memory) }
 {
     match ts {
         Terms::Nil => plain_imp(alloc, h, ts, premise),
@@ -163,7 +197,9 @@ fn push_args(alloc: Global, ts: &Terms, h: &Head, premise: &Term) -> Mem<Term>
                 return plain_imp(alloc, h, ts, premise);
             }
             let up = raise(alloc, premise, 1, 0)?;
-            let body = push_under(alloc, t.get(), &up)?;
+            let pushed = push_under(alloc, t.get(), &up);
+            drop(up);
+            let body = pushed?;
             all_of(alloc, h, body)
         }
     }
@@ -173,7 +209,7 @@ fn push_args(alloc: Global, ts: &Terms, h: &Head, premise: &Term) -> Mem<Term>
 #[cycle(push)]
 fn push_under(alloc: Global, t: &Term, premise: &Term) -> Mem<Term>
     ensures ok { IfOk result (λ r. r ≡ push_under premise.now t.now) }
-    ensures number { IfErr result (λ w. w ≡ Number → IsPast (made_push_under premise.now t.now)) }
+    ensures memory { IfErr result (λ w. w ≡ Memory) }
 {
     match t {
         Term::Abs(_c, b) => push(alloc, b.get(), premise),
@@ -184,11 +220,13 @@ fn push_under(alloc: Global, t: &Term, premise: &Term) -> Mem<Term>
 /// A head with arguments that have the form.
 fn hhf_spine(alloc: Global, h: &Head, args: Terms) -> Mem<Term>
     ensures ok { IfOk result (λ r. r ≡ hhf_spine h.now args) }
-    ensures number { IfErr result (λ w. w ≡ Number → IsPast (made_hhf_spine h.now args)) }
+    ensures memory { IfErr result (λ w. w ≡ Memory) }
 {
     let t = Term::Spine(h.copy()?, args);
     if t.is_implication() {
-        push(alloc, t.consequent(), t.antecedent())
+        let made = push(alloc, t.consequent(), t.antecedent());
+        drop(t);
+        made
     } else {
         Ok(t)
     }
@@ -198,7 +236,7 @@ fn hhf_spine(alloc: Global, h: &Head, args: Terms) -> Mem<Term>
 #[cycle(hhf)]
 fn moved(alloc: Global, t: &Term) -> Mem<Term>
     ensures ok { IfOk result (λ r. r ≡ hhf t.now) }
-    ensures number { IfErr result (λ w. w ≡ Number → IsPast (made_hhf t.now)) }
+    ensures memory { IfErr result (λ w. w ≡ Memory) }
 {
     match t {
         Term::Abs(c, b) => {
@@ -216,13 +254,13 @@ fn moved(alloc: Global, t: &Term) -> Mem<Term>
 #[cycle(hhf)]
 fn all_moved(alloc: Global, ts: &Terms) -> Mem<Terms>
     ensures ok { IfOk result (λ r. r ≡ hhf_all ts.now) }
-    ensures number { IfErr result (λ w. w ≡ Number → IsPast (made_hhf_all ts.now)) }
+    ensures memory { IfErr result (λ w. w ≡ Memory) }
 {
     match ts {
         Terms::Nil => Ok(Terms::Nil),
         Terms::Cons(t, rest) => {
-            let first = moved(alloc, t.get())?;
             let more = all_moved(alloc, rest.get())?;
+            let first = moved(alloc, t.get())?;
             Terms::cons(alloc, first, more)
         }
     }
@@ -296,12 +334,11 @@ fn are_plain(ts: &Terms) -> bool
     }
 }
 
-/// The term with each `!!` moved in front of `==>`, everywhere in it. A term that has the form already is given
-/// back shared. Fails where memory runs out; with `Number` only where an index or a depth that is made on the way is
-/// 4,294,967,295 or more.
+/// The term with each `!!` moved in front of `==>`, everywhere in it. A term that has the form already is given back
+/// shared. Fails where memory runs out.
 pub fn hhf(alloc: Global, t: &Term) -> Mem<Term>
     ensures ok { IfOk result (λ r. r ≡ hhf t.now) }
-    ensures number { IfErr result (λ w. w ≡ Number → IsPast (made_hhf t.now)) }
+    ensures memory { IfErr result (λ w. w ≡ Memory) }
 {
     if is_plain(t) {
         t.copy()

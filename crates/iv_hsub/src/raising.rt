@@ -1,22 +1,21 @@
 //! Terms under more binders.
-ghost use Rattle.std.specs.Prelude.{◌≡◌, ◌≤◌, ◌+◌, IfOk, IfErr};
+ghost use Rattle.std.specs.Prelude.{◌≡◌, ◌+◌, IfOk, IfErr};
 ghost use Rattle.iv_term.specs.Term.{lam};
-ghost use Rattle.iv_text.specs.declared.want.Want.TheVariants.{Memory, Number};
+ghost use Rattle.iv_text.specs.declared.want.Want.TheVariants.{Memory};
 ghost use Rattle.iv_hsub.specs.Index.{raise_head, raise, raise_all};
-ghost use Rattle.iv_hsub.specs.Made.{IsPast, made_raise_head, made_raise, made_raise_all};
 
 use iv_shared::Shared;
 use iv_term::{Head, Term, Terms, Typ};
 use iv_text::{Mem, Want};
 use std::alloc::Global;
 
-/// The sum of two numbers. Fails with `Number` where it is above 4,294,967,295.
+/// The sum of two depths or indices. Where it is above 4,294,967,295 there is no memory for a term that has it.
 pub(crate) fn sum(a: u32, b: u32) -> Mem<u32>
     ensures ok { IfOk result (λ n. n ≡ a + b) }
-    ensures number { IfErr result (λ w. 4294967295 ≤ a + b) }
+    ensures memory { IfErr result (λ w. w ≡ Memory) }
 {
     match a.checked_add(b) {
-        None => Err(Want::Number),
+        None => Err(Want::Memory),
         Some(n) => Ok(n),
     }
 }
@@ -33,7 +32,7 @@ pub(crate) fn abs(alloc: Global, a: &Typ, body: Term) -> Mem<Term>
 /// A head under more binders.
 pub(crate) fn raise_head(h: &Head, by: u32, depth: u32) -> Mem<Head>
     ensures ok { IfOk result (λ r. r ≡ raise_head by depth h.now) }
-    ensures number { IfErr result (λ w. w ≡ Number → IsPast (made_raise_head by depth h.now)) }
+    ensures memory { IfErr result (λ w. w ≡ Memory) }
 {
     match h {
         Head::Bound(n) => {
@@ -49,12 +48,12 @@ pub(crate) fn raise_head(h: &Head, by: u32, depth: u32) -> Mem<Head>
     }
 }
 
-/// A term with `by` more binders put around it, where the inner `depth` binders are its own. Fails where memory
-/// runs out; with `Number` only where an index or a depth that is made on the way is 4,294,967,295 or more.
+/// A term with `by` more binders put around it, where the inner `depth` binders are its own. Fails where memory runs
+/// out.
 #[cycle(raise)]
 pub fn raise(alloc: Global, t: &Term, by: u32, depth: u32) -> Mem<Term>
     ensures ok { IfOk result (λ r. r ≡ raise by depth t.now) }
-    ensures number { IfErr result (λ w. w ≡ Number → IsPast (made_raise by depth t.now)) }
+    ensures memory { IfErr result (λ w. w ≡ Memory) }
 {
     match t {
         Term::Abs(a, b) => {
@@ -69,18 +68,17 @@ pub fn raise(alloc: Global, t: &Term, by: u32, depth: u32) -> Mem<Term>
     }
 }
 
-/// The same of some terms. Fails where memory runs out; with `Number` only where an index or a depth that is made
-/// on the way is 4,294,967,295 or more.
+/// The same of some terms. Fails where memory runs out.
 #[cycle(raise)]
 pub fn raise_all(alloc: Global, ts: &Terms, by: u32, depth: u32) -> Mem<Terms>
     ensures ok { IfOk result (λ r. r ≡ raise_all by depth ts.now) }
-    ensures number { IfErr result (λ w. w ≡ Number → IsPast (made_raise_all by depth ts.now)) }
+    ensures memory { IfErr result (λ w. w ≡ Memory) }
 {
     match ts {
         Terms::Nil => Ok(Terms::Nil),
         Terms::Cons(t, rest) => {
-            let first = raise(alloc, t.get(), by, depth)?;
             let more = raise_all(alloc, rest.get(), by, depth)?;
+            let first = raise(alloc, t.get(), by, depth)?;
             Terms::cons(alloc, first, more)
         }
     }

@@ -2,12 +2,12 @@
 //! has, so that no redex is left.
 ghost use Rattle.std.specs.Prelude.{◌≡◌, IfOk, IfErr, IsTrue, ◌↔◌};
 ghost use Rattle.iv_term.specs.Typ.{fun, ty_cons};
+ghost use Rattle.iv_term.specs.declared.term.Head.TheVariants.{Bound};
 ghost use Rattle.iv_term.specs.declared.term.Term.TheBlock.{Spine};
-ghost use Rattle.iv_text.specs.declared.want.Want.TheVariants.{Memory, Number};
+ghost use Rattle.iv_text.specs.declared.want.Want.TheVariants.{Memory};
 ghost use Rattle.iv_hsub.specs.Typing.{cod, type_of, IsTerm};
 ghost use Rattle.iv_hsub.specs.Index.{raise};
 ghost use Rattle.iv_hsub.specs.Hsub.{append, put_head, put, put_all, happ, hsub};
-ghost use Rattle.iv_hsub.specs.Made.{IsPast, made_raise, made_put_head, made_put, made_put_all, made_happ, made_hsub};
 
 use crate::contraction::eta;
 use crate::looseness::loose;
@@ -34,12 +34,20 @@ pub fn append(alloc: Global, ts: &Terms, us: Terms) -> Mem<Terms>
 }
 
 /// A head with arguments. Fails where a count of owners is full.
-fn spine(h: &Head, args: &Terms) -> Mem<Term>
+pub(crate) fn spine(h: &Head, args: &Terms) -> Mem<Term>
     ensures ok { IfOk result (λ r. r ≡ Spine h.now args.now) }
     ensures memory { IfErr result (λ w. w ≡ Memory) }
 {
     let args = args.copy()?;
     Ok(Term::Spine(h.copy()?, args))
+}
+
+/// A bound variable with arguments. Fails where a count of owners is full.
+fn bound_spine(n: u32, args: &Terms) -> Mem<Term>
+    ensures ok { IfOk result (λ r. r ≡ Spine (Bound n) args.now) }
+    ensures memory { IfErr result (λ w. w ≡ Memory) }
+{
+    Ok(Term::Spine(Head::Bound(n), args.copy()?))
 }
 
 /// A head with arguments and more of them behind. Fails where memory runs out.
@@ -61,7 +69,7 @@ fn takes(a: &Typ, d: &Typ) -> bool
 /// A value under more binders.
 fn raised(alloc: Global, v: &Term, by: u32) -> Mem<Term>
     ensures ok { IfOk result (λ r. r ≡ raise by 0 v.now) }
-    ensures number { IfErr result (λ w. w ≡ Number → IsPast (made_raise by 0 v.now)) }
+    ensures memory { IfErr result (λ w. w ≡ Memory) }
 {
     if loose(v) == 0 {
         v.copy()
@@ -74,7 +82,7 @@ fn raised(alloc: Global, v: &Term, by: u32) -> Mem<Term>
 #[cycle(hsub)]
 fn put(alloc: Global, t: &Term, v: &Term, k: u32, a: &Typ) -> Mem<Term>
     ensures ok { IfOk result (λ r. r ≡ put (happ a.now) v.now k t.now) }
-    ensures number { IfErr result (λ w. w ≡ Number → IsPast (made_put (made_happ a.now) (happ a.now) v.now k t.now)) }
+    ensures memory { IfErr result (λ w. w ≡ Memory) }
 {
     match t {
         Term::Abs(c, b) => {
@@ -93,13 +101,13 @@ fn put(alloc: Global, t: &Term, v: &Term, k: u32, a: &Typ) -> Mem<Term>
 #[cycle(hsub)]
 fn put_all(alloc: Global, ts: &Terms, v: &Term, k: u32, a: &Typ) -> Mem<Terms>
     ensures ok { IfOk result (λ r. r ≡ put_all (happ a.now) v.now k ts.now) }
-    ensures number { IfErr result (λ w. w ≡ Number → IsPast (made_put_all (made_happ a.now) (happ a.now) v.now k ts.now)) }
+    ensures memory { IfErr result (λ w. w ≡ Memory) }
 {
     match ts {
         Terms::Nil => Ok(Terms::Nil),
         Terms::Cons(t, rest) => {
-            let first = put(alloc, t.get(), v, k, a)?;
             let more = put_all(alloc, rest.get(), v, k, a)?;
+            let first = put(alloc, t.get(), v, k, a)?;
             Terms::cons(alloc, first, more)
         }
     }
@@ -109,7 +117,7 @@ fn put_all(alloc: Global, ts: &Terms, v: &Term, k: u32, a: &Typ) -> Mem<Terms>
 #[cycle(hsub)]
 fn put_head(alloc: Global, h: &Head, args: &Terms, v: &Term, k: u32, a: &Typ) -> Mem<Term>
     ensures ok { IfOk result (λ r. r ≡ put_head (happ a.now) v.now k h.now args.now) }
-    ensures number { IfErr result (λ w. w ≡ Number → IsPast (made_put_head (made_happ a.now) v.now k h.now args.now)) }
+    ensures memory { IfErr result (λ w. w ≡ Memory) }
 {
     match h {
         Head::Bound(n) => {
@@ -118,9 +126,11 @@ fn put_head(alloc: Global, h: &Head, args: &Terms, v: &Term, k: u32, a: &Typ) ->
             }
             if *n == k {
                 let w = raised(alloc, v, k)?;
-                return happ(alloc, &w, a, args);
+                let made = happ(alloc, &w, a, args);
+                drop(w);
+                return made;
             }
-            spine(&Head::Bound(*n - 1), args)
+            bound_spine(*n - 1, args)
         }
         Head::Const(_c, _t) => spine(h, args),
         Head::Free(_x, _t) => spine(h, args),
@@ -128,13 +138,12 @@ fn put_head(alloc: Global, h: &Head, args: &Terms, v: &Term, k: u32, a: &Typ) ->
     }
 }
 
-/// What a value of type `a` is at some arguments: an abstraction over the argument's type takes the first, and
-/// what comes takes the others. Fails where memory runs out; with `Number` only where an index or a depth that is
-/// made on the way is 4,294,967,295 or more.
+/// What a value of type `a` is at some arguments: an abstraction over the argument's type takes the first, and what
+/// comes takes the others. Fails where memory runs out.
 #[cycle(hsub)]
 pub fn happ(alloc: Global, v: &Term, a: &Typ, args: &Terms) -> Mem<Term>
     ensures ok { IfOk result (λ r. r ≡ happ a.now v.now args.now) }
-    ensures number { IfErr result (λ w. w ≡ Number → IsPast (made_happ a.now v.now args.now)) }
+    ensures memory { IfErr result (λ w. w ≡ Memory) }
 {
     match args {
         Terms::Nil => v.copy(),
@@ -145,21 +154,22 @@ pub fn happ(alloc: Global, v: &Term, a: &Typ, args: &Terms) -> Mem<Term>
                     return v.copy();
                 }
                 let body = put(alloc, b.get(), u.get(), 0, d)?;
-                happ(alloc, &body, cod(a), rest.get())
+                let made = happ(alloc, &body, cod(a), rest.get());
+                drop(body);
+                made
             }
         },
     }
 }
 
-/// A body with a value of type `typ` put for its outermost bound variable, by hereditary substitution. Where
-/// the body is a term under `typ` and `bounds`, and the value one of type `typ` under `bounds`, so is the
-/// result, of the body's type. Fails where memory runs out; with `Number` only where an index or a depth that is
-/// made on the way is 4,294,967,295 or more.
+/// A body with a value of type `typ` put for its outermost bound variable, by hereditary substitution. Where the body
+/// is a term under `typ` and `bounds`, and the value one of type `typ` under `bounds`, so is the result, of the body's
+/// type. Fails where memory runs out.
 pub fn hsub(alloc: Global, body: &Term, value: &Term, typ: &Typ, bounds: &Types) -> Mem<Term>
     ensures ok { IfOk result (λ r. r ≡ hsub typ.now value.now body.now) }
     ensures typed { IsTerm (ty_cons typ.now bounds.now) body.now → IsTerm bounds.now value.now → type_of bounds.now value.now ≡ typ.now
         → IfOk result (λ r. IsTerm bounds.now r × (type_of bounds.now r ≡ type_of (ty_cons typ.now bounds.now) body.now)) }
-    ensures number { IfErr result (λ w. w ≡ Number → IsPast (made_hsub typ.now value.now body.now)) }
+    ensures memory { IfErr result (λ w. w ≡ Memory) }
 {
     let _ = bounds;
     put(alloc, body, value, 0, typ)

@@ -273,7 +273,9 @@ fn spine_type(alloc: Global, h: &Head, ts: &Terms, bounds: &Bounds) -> Mem<Typ>
     match head_type(h, bounds) {
         None => {
             let prop = Typ::prop(alloc)?;
-            result_type(ts, &prop).copy()
+            let made = result_type(ts, &prop).copy();
+            drop(prop);
+            made
         }
         Some(a) => result_type(ts, a).copy(),
     }

@@ -9,9 +9,7 @@ use Rattle.iv_term.specs.Hyps.{without}
 use Rattle.iv_hsub.specs.Hhf.{one}
 use Rattle.iv_rules.specs.Laws.{SameIsEqual}
 use Rattle.iv_text.specs.declared.want.Want.{Want}
-use Rattle.iv_hsub.specs.Made.{IsPast, made_hhf}
-use Rattle.iv_hsub.proofs.Terms.Past.{past-left, past-right}
-use Rattle.iv_kernel.specs.Goal.{goal_prop, premises_of, IsGoalProp, IsInForm, IsGoal, made_forms}
+use Rattle.iv_kernel.specs.Goal.{goal_prop, premises_of, IsGoalProp, IsInForm, IsGoal}
 
 pub length-premises_of : (n : ℕ) (p : Term) → length (premises_of n p) ≡ n
 unfolding premises_of
@@ -72,12 +70,3 @@ pub leads-later : (n m : ℕ) (p c : Term) (r : Result Bool Want) → n ≡ suc 
     → IfOk r (λ b. Decides b (IsGoal n p c))
 leads-later n m p c (Ok b) e is f d = leads-on n m p c b e is f d
 leads-later n m p c (Err w) e is f d = tt
-
--- the numbers of the first premise, and of the others
-pub forms-first : (n m : ℕ) (p : Term) → n ≡ suc m → IsPast (made_hhf (antecedent p)) → IsPast (made_forms n p)
-unfolding made_forms
-forms-first n m p e h = rw e (past-left (made_hhf (antecedent p)) (made_forms m (consequent p)) h)
-
-pub forms-later : (n m : ℕ) (p : Term) → n ≡ suc m → IsPast (made_forms m (consequent p)) → IsPast (made_forms n p)
-unfolding made_forms
-forms-later n m p e h = rw e (past-right (made_hhf (antecedent p)) (made_forms m (consequent p)) h)

@@ -4,7 +4,6 @@ use Rattle.std.specs.List.{AllByRecursion}
 use Rattle.iv_term.specs.declared.term.Term.{Term}
 use Rattle.iv_term.specs.Term.{imp, antecedent, consequent}
 use Rattle.iv_hsub.specs.Hhf.{hhf}
-use Rattle.iv_hsub.specs.Made.{made_hhf}
 use Rattle.iv_rules.specs.Rules.{Proved}
 
 -- S1 ==> .. ==> Sn ==> C
@@ -31,11 +30,6 @@ AreInForm ts = AllByRecursion IsInForm ts
 -- and its subgoals are in this form
 abbrev pub IsGoal : ℕ → Term → Term → Type 0
 IsGoal n p claim = IsGoalProp n p claim × AreInForm (premises_of n p)
-
--- the indices and depths that are made where n premises are brought into the form
-unfoldable pub made_forms : ℕ → Term → List ℕ
-made_forms zero p = []
-made_forms (suc n) p = made_hhf (antecedent p) ++ made_forms n (consequent p)
 
 -- what a goal is
 pub record OpenGoal : Type 0 where

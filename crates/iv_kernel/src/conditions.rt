@@ -1,7 +1,6 @@
 //! The conditions of the rules, each tested by the call of the rule's name with `can_` in front.
 ghost use Rattle.std.specs.Prelude.{◌≡◌, true, ◌++◌, IfOk, IfErr, IsTrue, ◌↔◌, is_some};
-ghost use Rattle.iv_text.specs.declared.want.Want.TheVariants.{Number};
-ghost use Rattle.iv_hsub.specs.Made.{IsPast, made_hhf};
+ghost use Rattle.iv_text.specs.declared.want.Want.TheVariants.{Memory};
 ghost use Rattle.iv_rules.specs.Equality.{IsEquation};
 ghost use Rattle.iv_rules.specs.Sequent.{IsClosed, IsProp};
 ghost use Rattle.iv_rules.specs.Conditions.{CanImpElim, CanAllIntr, CanAllElim, CanTrans, CanComb, CanAbs, CanEqIntr, CanEqElim, CanConv, CanInst};
@@ -119,11 +118,10 @@ impl Thm {
         conditions::is_equal_to(eq.prop(), t.prop())
     }
 
-    /// Whether the condition of [`conv`](Thm::conv) holds. Fails where memory runs out; with `Number` only where an index or
-    /// a depth that is made on the way is 4,294,967,295 or more.
+    /// Whether the condition of [`conv`](Thm::conv) holds. Fails where memory runs out.
     pub fn can_conv(alloc: Global, prop: &Term, t: &Thm) -> Mem<bool>
         ensures ok { IfOk result (λ b. IsTrue b ↔ CanConv prop.now t.now.prop) }
-        ensures number { IfErr result (λ w. w ≡ Number → IsPast (made_hhf t.now.prop ++ made_hhf prop.now)) }
+        ensures memory { IfErr result (λ w. w ≡ Memory) }
     {
         conditions::have_one_form(alloc, prop, t.prop())
     }

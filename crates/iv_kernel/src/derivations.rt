@@ -6,7 +6,7 @@ ghost use Rattle.iv_rules.specs.Derivation.{imp_intr, imp_elim, all_intr, all_el
 
 use iv_rules::{Derivation, Instance};
 use iv_shared::Shared;
-use iv_term::{Term, Typ};
+use iv_term::{Term, Typ, both};
 use iv_text::{Mem, Name, Text};
 use std::alloc::Global;
 
@@ -15,7 +15,8 @@ pub(crate) fn axiom(name: &Text, prop: &Term) -> Mem<Derivation>
     ensures ok { IfOk result (λ r. r ≡ Axiom name.now prop.now) }
     ensures memory { IfErr result (λ w. w ≡ Memory) }
 {
-    Ok(Derivation::Axiom(name.copy()?, prop.copy()?))
+    let (name, prop) = both(name.copy(), prop.copy())?;
+    Ok(Derivation::Axiom(name, prop))
 }
 
 /// An assumption.
@@ -39,7 +40,8 @@ pub(crate) fn imp_intr(prop: &Term, d: &Shared<Derivation>) -> Mem<Derivation>
     ensures ok { IfOk result (λ r. r ≡ imp_intr prop.now d.now) }
     ensures memory { IfErr result (λ w. w ≡ Memory) }
 {
-    Ok(Derivation::ImpIntr(prop.copy()?, d.share()?))
+    let (prop, d) = both(prop.copy(), shared(d))?;
+    Ok(Derivation::ImpIntr(prop, d))
 }
 
 /// An implication, and its premise.
@@ -47,7 +49,8 @@ pub(crate) fn imp_elim(d: &Shared<Derivation>, e: &Shared<Derivation>) -> Mem<De
     ensures ok { IfOk result (λ r. r ≡ imp_elim d.now e.now) }
     ensures memory { IfErr result (λ w. w ≡ Memory) }
 {
-    Ok(Derivation::ImpElim(d.share()?, e.share()?))
+    let (d, e) = both(shared(d), shared(e))?;
+    Ok(Derivation::ImpElim(d, e))
 }
 
 /// A free variable that `!!` binds.
@@ -55,7 +58,9 @@ pub(crate) fn all_intr(name: &Name, typ: &Typ, d: &Shared<Derivation>) -> Mem<De
     ensures ok { IfOk result (λ r. r ≡ all_intr name.now typ.now d.now) }
     ensures memory { IfErr result (λ w. w ≡ Memory) }
 {
-    Ok(Derivation::AllIntr(name.copy()?, typ.copy()?, d.share()?))
+    let variable = both(name.copy(), typ.copy());
+    let ((name, typ), d) = both(variable, shared(d))?;
+    Ok(Derivation::AllIntr(name, typ, d))
 }
 
 /// A term for what `!!` binds.
@@ -63,7 +68,8 @@ pub(crate) fn all_elim(value: &Term, d: &Shared<Derivation>) -> Mem<Derivation>
     ensures ok { IfOk result (λ r. r ≡ all_elim value.now d.now) }
     ensures memory { IfErr result (λ w. w ≡ Memory) }
 {
-    Ok(Derivation::AllElim(value.copy()?, d.share()?))
+    let (value, d) = both(value.copy(), shared(d))?;
+    Ok(Derivation::AllElim(value, d))
 }
 
 /// An equation, turned round.
@@ -79,7 +85,8 @@ pub(crate) fn trans(d: &Shared<Derivation>, e: &Shared<Derivation>) -> Mem<Deriv
     ensures ok { IfOk result (λ r. r ≡ eq_trans d.now e.now) }
     ensures memory { IfErr result (λ w. w ≡ Memory) }
 {
-    Ok(Derivation::Trans(d.share()?, e.share()?))
+    let (d, e) = both(shared(d), shared(e))?;
+    Ok(Derivation::Trans(d, e))
 }
 
 /// An equation of functions, and one of their arguments.
@@ -87,7 +94,8 @@ pub(crate) fn comb(d: &Shared<Derivation>, e: &Shared<Derivation>) -> Mem<Deriva
     ensures ok { IfOk result (λ r. r ≡ comb d.now e.now) }
     ensures memory { IfErr result (λ w. w ≡ Memory) }
 {
-    Ok(Derivation::Comb(d.share()?, e.share()?))
+    let (d, e) = both(shared(d), shared(e))?;
+    Ok(Derivation::Comb(d, e))
 }
 
 /// A free variable that both sides of an equation abstract over.
@@ -95,7 +103,9 @@ pub(crate) fn abs(name: &Name, typ: &Typ, d: &Shared<Derivation>) -> Mem<Derivat
     ensures ok { IfOk result (λ r. r ≡ abs name.now typ.now d.now) }
     ensures memory { IfErr result (λ w. w ≡ Memory) }
 {
-    Ok(Derivation::Abs(name.copy()?, typ.copy()?, d.share()?))
+    let variable = both(name.copy(), typ.copy());
+    let ((name, typ), d) = both(variable, shared(d))?;
+    Ok(Derivation::Abs(name, typ, d))
 }
 
 /// Two implications, one the other way round.
@@ -103,7 +113,8 @@ pub(crate) fn eq_intr(d: &Shared<Derivation>, e: &Shared<Derivation>) -> Mem<Der
     ensures ok { IfOk result (λ r. r ≡ eq_intr d.now e.now) }
     ensures memory { IfErr result (λ w. w ≡ Memory) }
 {
-    Ok(Derivation::EqIntr(d.share()?, e.share()?))
+    let (d, e) = both(shared(d), shared(e))?;
+    Ok(Derivation::EqIntr(d, e))
 }
 
 /// An equation of propositions, and its left side.
@@ -111,7 +122,8 @@ pub(crate) fn eq_elim(d: &Shared<Derivation>, e: &Shared<Derivation>) -> Mem<Der
     ensures ok { IfOk result (λ r. r ≡ eq_elim d.now e.now) }
     ensures memory { IfErr result (λ w. w ≡ Memory) }
 {
-    Ok(Derivation::EqElim(d.share()?, e.share()?))
+    let (d, e) = both(shared(d), shared(e))?;
+    Ok(Derivation::EqElim(d, e))
 }
 
 /// A proposition that has the same form with each `!!` in front.
@@ -119,7 +131,8 @@ pub(crate) fn conv(prop: &Term, d: &Shared<Derivation>) -> Mem<Derivation>
     ensures ok { IfOk result (λ r. r ≡ conv prop.now d.now) }
     ensures memory { IfErr result (λ w. w ≡ Memory) }
 {
-    Ok(Derivation::Conv(prop.copy()?, d.share()?))
+    let (prop, d) = both(prop.copy(), shared(d))?;
+    Ok(Derivation::Conv(prop, d))
 }
 
 /// Types and terms put for variables.
@@ -127,5 +140,14 @@ pub(crate) fn inst(alloc: Global, s: &Instance, d: &Shared<Derivation>) -> Mem<D
     ensures ok { IfOk result (λ r. r ≡ inst s.now d.now) }
     ensures memory { IfErr result (λ w. w ≡ Memory) }
 {
-    Ok(Derivation::Inst(s.copy(alloc)?, d.share()?))
+    let (s, d) = both(s.copy(alloc), shared(d))?;
+    Ok(Derivation::Inst(s, d))
+}
+
+/// One more owner of a derivation. Takes no memory; fails where the count of owners is full.
+pub(crate) fn shared(d: &Shared<Derivation>) -> Mem<Shared<Derivation>>
+    ensures ok { IfOk result (λ r. r ≡ d.now) }
+    ensures memory { IfErr result (λ w. w ≡ Memory) }
+{
+    Ok(d.share()?)
 }

@@ -1,19 +1,18 @@
 ghost use Rattle.std.specs.Prelude.{◌≡◌, ℕ, ◌-◌, ◌≤◌, ◌<◌, [], ◌∷◌, length, slice_get, Some, IfOk, IfErr, IsTrue, ◌↔◌};
-ghost use Rattle.iv_text.specs.declared.want.Want.TheVariants.{Memory, Number};
+ghost use Rattle.iv_text.specs.declared.want.Want.TheVariants.{Memory};
 ghost use Rattle.iv_term.specs.declared.term.Term.TheBlock.{Nil};
 ghost use Rattle.iv_term.specs.Term.{imp, tm_cons};
 ghost use Rattle.iv_hsub.specs.Hhf.{hhf};
-ghost use Rattle.iv_hsub.specs.Made.{IsPast, made_hhf};
 ghost use Rattle.iv_rules.specs.declared.derivation.Derivation.TheBlock.{Assume};
 ghost use Rattle.iv_rules.specs.Derivation.{imp_intr, conv};
 ghost use Rattle.iv_rules.specs.Sequent.{IsProp};
-ghost use Rattle.iv_kernel.specs.Goal.{goal_prop, premises_of, IsInForm, AreInForm, IsGoal, made_forms};
+ghost use Rattle.iv_kernel.specs.Goal.{goal_prop, premises_of, IsInForm, AreInForm, IsGoal};
 
 use crate::thm::Thm;
 use iv_hsub::laws::hhf_is_a_normal_form;
 use iv_hsub::{hhf, is_prop};
 use iv_rules::laws::hypotheses_are_told_apart;
-use iv_term::Term;
+use iv_term::{Term, both};
 use iv_text::Mem;
 use std::alloc::Global;
 use std::marker::Model;
@@ -45,15 +44,14 @@ impl Model for Goal {
 }
 
 impl Goal {
-    /// A claim as its own only subgoal, with each `!!` in front of `==>`. Fails where memory runs out; with `Number` only
-    /// where an index or a depth that is made on the way is 4,294,967,295 or more.
+    /// A claim as its own only subgoal, with each `!!` in front of `==>`. Fails where memory runs out.
     pub fn init(alloc: Global, claim: &Term) -> Mem<Goal>
         requires { IsProp claim.now }
         ensures subgoals { IfOk result (λ g. g.subgoals ≡ hhf claim.now ∷ []) }
         ensures claim { IfOk result (λ g. g.claim ≡ claim.now) }
         ensures hyps { IfOk result (λ g. g.thm.hyps ≡ Nil) }
         ensures derivation { IfOk result (λ g. g.thm.derivation ≡ imp_intr (hhf claim.now) (conv claim.now (Assume (hhf claim.now)))) }
-        ensures number { IfErr result (λ w. w ≡ Number → IsPast (made_hhf claim.now)) }
+        ensures memory { IfErr result (λ w. w ≡ Memory) }
     {
         hhf_is_a_normal_form();
         let thm = form_implies(alloc, claim)?;
@@ -80,11 +78,10 @@ impl Goal {
         Ok(Goal { thm, count, claim })
     }
 
-    /// Whether the condition of [`made`](Goal::made) holds. Fails where memory runs out; with `Number` only where an index
-    /// or a depth that is made on the way is 4,294,967,295 or more.
+    /// Whether the condition of [`made`](Goal::made) holds. Fails where memory runs out.
     pub fn can_make(alloc: Global, thm: &Thm, count: u32, claim: &Term) -> Mem<bool>
         ensures ok { IfOk result (λ b. IsTrue b ↔ IsGoal count thm.now.prop claim.now) }
-        ensures number { IfErr result (λ w. w ≡ Number → IsPast (made_forms count thm.now.prop)) }
+        ensures memory { IfErr result (λ w. w ≡ Memory) }
     {
         leads_to(alloc, thm.prop(), count, claim)
     }
@@ -127,7 +124,12 @@ impl Goal {
         ensures thm { result ≡ self.thm }
         ensures prop { result.prop ≡ self.claim }
     {
-        let Goal { thm, .. } = self;
+        let Goal {
+            thm,
+            count: _count,
+            claim,
+        } = self;
+        drop(claim);
         thm
     }
 
@@ -136,8 +138,7 @@ impl Goal {
         ensures ok { IfOk result (λ g. g ≡ self.now) }
         ensures memory { IfErr result (λ w. w ≡ Memory) }
     {
-        let thm = self.thm.copy()?;
-        let claim = self.claim.copy()?;
+        let (thm, claim) = both(self.thm.copy(), self.claim.copy())?;
         Ok(Goal {
             thm,
             count: self.count,
@@ -160,34 +161,50 @@ fn from_form(alloc: Global, form: &Term, claim: &Term) -> Mem<Thm>
     Thm::conv(alloc, claim, &assumed)
 }
 
+/// `|- form ==> claim`, for the claim's form.
+fn implied(alloc: Global, form: &Term, claim: &Term) -> Mem<Thm>
+    requires claim { IsProp claim.now }
+    requires form { form.now ≡ hhf claim.now }
+    ensures prop { IfOk result (λ r. r.prop ≡ imp form.now claim.now) }
+    ensures hyps { IfOk result (λ r. r.hyps ≡ Nil) }
+    ensures derivation { IfOk result (λ r. r.derivation ≡ imp_intr form.now (conv claim.now (Assume form.now))) }
+    ensures memory { IfErr result (λ w. w ≡ Memory) }
+{
+    hhf_is_a_normal_form();
+    hypotheses_are_told_apart();
+    let concluded = from_form(alloc, form, claim)?;
+    Thm::imp_intr(alloc, form, &concluded)
+}
+
 /// `|- hhf claim ==> claim`.
 fn form_implies(alloc: Global, claim: &Term) -> Mem<Thm>
     requires { IsProp claim.now }
     ensures prop { IfOk result (λ r. r.prop ≡ imp (hhf claim.now) claim.now) }
     ensures hyps { IfOk result (λ r. r.hyps ≡ Nil) }
     ensures derivation { IfOk result (λ r. r.derivation ≡ imp_intr (hhf claim.now) (conv claim.now (Assume (hhf claim.now)))) }
-    ensures number { IfErr result (λ w. w ≡ Number → IsPast (made_hhf claim.now)) }
+    ensures memory { IfErr result (λ w. w ≡ Memory) }
 {
-    hhf_is_a_normal_form();
-    hypotheses_are_told_apart();
     let form = hhf(alloc, claim)?;
-    let concluded = from_form(alloc, &form, claim)?;
-    Thm::imp_intr(alloc, &form, &concluded)
+    let thm = implied(alloc, &form, claim);
+    drop(form);
+    thm
 }
 
 /// Whether a term has each `!!` in front of `==>`.
 fn is_in_form(alloc: Global, t: &Term) -> Mem<bool>
     ensures ok { IfOk result (λ b. IsTrue b ↔ IsInForm t.now) }
-    ensures number { IfErr result (λ w. w ≡ Number → IsPast (made_hhf t.now)) }
+    ensures memory { IfErr result (λ w. w ≡ Memory) }
 {
     let form = hhf(alloc, t)?;
-    Ok(form.is(t))
+    let is_same = form.is(t);
+    drop(form);
+    Ok(is_same)
 }
 
 /// Whether a proposition leads from `count` premises in the form to a claim.
 fn leads_to(alloc: Global, prop: &Term, count: u32, claim: &Term) -> Mem<bool>
     ensures ok { IfOk result (λ b. IsTrue b ↔ IsGoal count prop.now claim.now) }
-    ensures number { IfErr result (λ w. w ≡ Number → IsPast (made_forms count prop.now)) }
+    ensures memory { IfErr result (λ w. w ≡ Memory) }
 {
     if count == 0 {
         return Ok(prop.is(claim));

@@ -3,7 +3,8 @@ ghost use Rattle.iv_text.specs.declared.want.Want.TheVariants.{Memory};
 
 use crate::thm::Thm;
 use iv_list::Items;
-use iv_text::{Copied, Mem, Text};
+use iv_term::both;
+use iv_text::{Copied, Mem, Text, copy_of};
 
 /// A theorem with its name, where it has one.
 #[derive(Drop)]
@@ -20,17 +21,8 @@ impl NamedThm {
         ensures ok { IfOk result (λ n. n ≡ self.now) }
         ensures memory { IfErr result (λ w. w ≡ Memory) }
     {
-        let thm = self.thm.copy()?;
-        match &self.name {
-            None => Ok(NamedThm { name: None, thm }),
-            Some(name) => {
-                let name = name.copy()?;
-                Ok(NamedThm {
-                    name: Some(name),
-                    thm,
-                })
-            }
-        }
+        let (name, thm) = both(copy_of(self.name.as_ref()), self.thm.copy())?;
+        Ok(NamedThm { name, thm })
     }
 }
 

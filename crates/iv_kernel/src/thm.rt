@@ -1,12 +1,14 @@
 //! Theorems, and the fifteen rules that make them.
-ghost use Rattle.std.specs.Prelude.{◌≡◌, true, ◌++◌, IfOk, IfErr, Some, is_some};
+ghost use Rattle.std.specs.Prelude.{◌≡◌, true, IfOk, IfErr, Some, is_some};
+ghost use Rattle.iv_term.specs.declared.term.Term.{Term};
+ghost use Rattle.iv_term.specs.declared.term.Terms.{Terms};
+ghost use Rattle.iv_rules.specs.declared.derivation.Derivation.{Derivation};
 ghost use Rattle.iv_term.specs.Typ.{prop, fun};
 ghost use Rattle.iv_term.specs.Hyps.{IsDistinctTerms};
-ghost use Rattle.iv_text.specs.declared.want.Want.TheVariants.{Memory, Number};
+ghost use Rattle.iv_text.specs.declared.want.Want.TheVariants.{Memory};
 ghost use Rattle.iv_term.specs.declared.typ.Typ.TheBlock.{Nil as no_types};
 ghost use Rattle.iv_hsub.specs.Typing.{type_of};
 ghost use Rattle.iv_hsub.specs.Hhf.{one};
-ghost use Rattle.iv_hsub.specs.Made.{IsPast, made_raise, made_happ};
 ghost use Rattle.iv_rules.specs.declared.derivation.Derivation.TheBlock.{Axiom, Assume, Refl};
 ghost use Rattle.iv_rules.specs.Derivation.{imp_intr, imp_elim, all_intr, all_elim, eq_sym, eq_trans, comb, abs, eq_intr, eq_elim, conv, inst};
 ghost use Rattle.iv_rules.specs.Equality.{lhs, rhs, side_type, IsEquation, predicate};
@@ -14,25 +16,37 @@ ghost use Rattle.iv_rules.specs.Sequent.{IsClosed, IsProp, AreProps};
 ghost use Rattle.iv_rules.specs.Conditions.{CanImpElim, CanAllIntr, CanAllElim, CanTrans, CanComb, CanAbs, CanEqIntr, CanEqElim, CanConv, CanInst};
 ghost use Rattle.iv_rules.specs.Conclusions.{by_axiom, by_assume, by_imp_intr, by_imp_elim, by_all_intr, by_all_elim, by_refl, by_sym, by_trans, by_comb, by_abs, by_eq_intr, by_eq_elim, by_conv, by_inst};
 ghost use Rattle.iv_rules.specs.Rules.{Shows, Kept, said};
-ghost use Rattle.iv_conclusions.specs.Made.{made_instanced, made_instanced_all};
 ghost use Rattle.iv_sig.specs.Table.{look};
 
-use crate::derivations;
+use crate::derivations::{self, shared};
 use iv_conclusions::{are_keys_apart, conclusions, instanced, instanced_hyps};
 use iv_rules::{Derivation, Instance, steps};
 use iv_shared::Shared;
 use iv_sig::Sig;
-use iv_term::{Term, Terms, Typ};
+use iv_term::{Term, Terms, Typ, both};
 use iv_text::{Mem, Name, Text};
 use std::alloc::Global;
 use std::marker::Model;
 
 /// A theorem: hypotheses, the proposition that follows from them, and the derivation that concludes it.
-#[derive(Drop)]
 pub struct Thm {
     hyps: Terms,
     prop: Term,
     derivation: Shared<Derivation>,
+}
+
+// By hand, so that a caller's proof has one call where a theorem ends.
+impl Drop for Thm {
+    fn drop(self) {
+        let Thm {
+            hyps,
+            prop,
+            derivation,
+        } = self;
+        drop(hyps);
+        drop(prop);
+        drop(derivation);
+    }
 }
 
 impl Model for Thm {
@@ -84,9 +98,8 @@ impl Thm {
         ensures ok { IfOk result (λ t. t ≡ self.now) }
         ensures memory { IfErr result (λ w. w ≡ Memory) }
     {
-        let hyps = self.hyps.copy()?;
-        let prop = self.prop.copy()?;
-        let derivation = self.derivation.share()?;
+        let parts = both(self.hyps.copy(), self.prop.copy());
+        let ((hyps, prop), derivation) = both(parts, shared(&self.derivation))?;
         Ok(Thm {
             hyps,
             prop,
@@ -94,8 +107,8 @@ impl Thm {
         })
     }
 
-    /// The theorem of a derivation's sequent. Each rule ends here, with a derivation that is its own.
-    fn by(alloc: Global, rule: Derivation, hyps: Terms, prop: Term) -> Mem<Thm>
+    /// The theorem of a derivation's sequent.
+    fn made(alloc: Global, rule: Derivation, hyps: Terms, prop: Term) -> Mem<Thm>
         requires { Shows rule hyps prop }
         ensures hyps { IfOk result (λ t. t.hyps ≡ hyps) }
         ensures prop { IfOk result (λ t. t.prop ≡ prop) }
@@ -108,6 +121,20 @@ impl Thm {
             prop,
             derivation,
         })
+    }
+
+    /// The theorem of what a rule makes: hypotheses, a proposition and a derivation that is its own, each where memory
+    /// sufficed. Each rule ends here.
+    fn by(alloc: Global, rule: Mem<Derivation>, hyps: Mem<Terms>, prop: Mem<Term>) -> Mem<Thm>
+        requires { IfOk rule (λ d. IfOk hyps (λ hs. IfOk prop (λ p. Shows d hs p))) }
+        ensures hyps { (hs : Terms) → IfOk hyps (λ h. h ≡ hs) → IfOk result (λ t. t.hyps ≡ hs) }
+        ensures prop { (p : Term) → IfOk prop (λ q. q ≡ p) → IfOk result (λ t. t.prop ≡ p) }
+        ensures derivation { (d : Derivation) → IfOk rule (λ r. r ≡ d) → IfOk result (λ t. t.derivation ≡ d) }
+        ensures memory { IfErr rule (λ w. w ≡ Memory) → IfErr hyps (λ w. w ≡ Memory) → IfErr prop (λ w. w ≡ Memory)
+            → IfErr result (λ w. w ≡ Memory) }
+    {
+        let ((hyps, prop), rule) = both(both(hyps, prop), rule)?;
+        Thm::made(alloc, rule, hyps, prop)
     }
 }
 
@@ -130,9 +157,9 @@ impl Thm {
         match sig.axioms().get(name) {
             None => unreachable!(),
             Some(axiom) => {
-                let prop = axiom.copy()?;
-                let rule = derivations::axiom(name, axiom)?;
-                Thm::by(alloc, rule, Terms::Nil, prop)
+                let prop = axiom.copy();
+                let rule = derivations::axiom(name, axiom);
+                Thm::by(alloc, rule, Ok(Terms::Nil), prop)
             }
         }
     }
@@ -152,9 +179,9 @@ impl Thm {
         ensures memory { IfErr result (λ w. w ≡ Memory) }
     {
         steps::propositions_are_shown();
-        let hyps = Terms::only(alloc, prop)?;
-        let concluded = prop.copy()?;
-        let rule = derivations::assume(prop)?;
+        let hyps = Terms::only(alloc, prop);
+        let concluded = prop.copy();
+        let rule = derivations::assume(prop);
         Thm::by(alloc, rule, hyps, concluded)
     }
 
@@ -173,9 +200,9 @@ impl Thm {
         ensures memory { IfErr result (λ w. w ≡ Memory) }
     {
         steps::propositions_are_shown();
-        let hyps = t.hyps.without(alloc, prop)?;
-        let concluded = Term::imp(alloc, prop, &t.prop)?;
-        let rule = derivations::imp_intr(prop, &t.derivation)?;
+        let hyps = t.hyps.without(alloc, prop);
+        let concluded = Term::imp(alloc, prop, &t.prop);
+        let rule = derivations::imp_intr(prop, &t.derivation);
         Thm::by(alloc, rule, hyps, concluded)
     }
 
@@ -194,9 +221,9 @@ impl Thm {
         ensures memory { IfErr result (λ w. w ≡ Memory) }
     {
         steps::propositions_are_shown();
-        let hyps = major.hyps.union(alloc, &minor.hyps)?;
-        let prop = major.prop.consequent().copy()?;
-        let rule = derivations::imp_elim(&major.derivation, &minor.derivation)?;
+        let hyps = major.hyps.union(alloc, &minor.hyps);
+        let prop = major.prop.consequent().copy();
+        let rule = derivations::imp_elim(&major.derivation, &minor.derivation);
         Thm::by(alloc, rule, hyps, prop)
     }
 
@@ -206,20 +233,19 @@ impl Thm {
     /// H |- !!x. B
     /// ```
     ///
-    /// for the variable x of this name and type, where no free variable of this name, of whatever type, stands in H; one of
-    /// the same name and another type stays as it is in B. Fails where memory runs out; with `Number` only where an index or a
-    /// depth that is made on the way is 4,294,967,295 or more.
+    /// for the variable x of this name and type, where no free variable of this name, of whatever type, stands in H;
+    /// one of the same name and another type stays as it is in B. Fails where memory runs out.
     pub fn all_intr(alloc: Global, name: &Name, typ: &Typ, t: &Thm) -> Mem<Thm>
         requires { CanAllIntr name.now t.now.hyps }
         ensures hyps { IfOk result (λ r. r.hyps ≡ (by_all_intr name.now typ.now (said t.now)).hyps) }
         ensures prop { IfOk result (λ r. r.prop ≡ (by_all_intr name.now typ.now (said t.now)).prop) }
         ensures derivation { IfOk result (λ r. r.derivation ≡ all_intr name.now typ.now t.now.derivation) }
-        ensures number { IfErr result (λ w. w ≡ Number → IsPast (made_raise 1 0 t.now.prop)) }
+        ensures memory { IfErr result (λ w. w ≡ Memory) }
     {
         steps::quantified_are_shown();
-        let hyps = t.hyps.copy()?;
-        let prop = conclusions::quantified(alloc, name, typ, &t.prop)?;
-        let rule = derivations::all_intr(name, typ, &t.derivation)?;
+        let hyps = t.hyps.copy();
+        let prop = conclusions::quantified(alloc, name, typ, &t.prop);
+        let rule = derivations::all_intr(name, typ, &t.derivation);
         Thm::by(alloc, rule, hyps, prop)
     }
 
@@ -229,20 +255,18 @@ impl Thm {
     ///  H |- B(v)
     /// ```
     ///
-    /// for a value v of x's type, without loose indices. Fails where memory runs out; with `Number` only where an index or
-    /// a depth that is made on the way is 4,294,967,295 or more.
+    /// for a value v of x's type, without loose indices. Fails where memory runs out.
     pub fn all_elim(alloc: Global, value: &Term, t: &Thm) -> Mem<Thm>
         requires { CanAllElim value.now t.now.prop }
         ensures hyps { IfOk result (λ r. r.hyps ≡ (by_all_elim value.now (said t.now)).hyps) }
         ensures prop { IfOk result (λ r. r.prop ≡ (by_all_elim value.now (said t.now)).prop) }
         ensures derivation { IfOk result (λ r. r.derivation ≡ all_elim value.now t.now.derivation) }
-        ensures number { IfErr result (λ w. w ≡ Number
-            → IsPast (made_happ (fun (type_of no_types value.now) prop) (predicate t.now.prop) (one value.now))) }
+        ensures memory { IfErr result (λ w. w ≡ Memory) }
     {
         steps::quantified_are_shown();
-        let hyps = t.hyps.copy()?;
-        let prop = conclusions::at_value(alloc, value, &t.prop)?;
-        let rule = derivations::all_elim(value, &t.derivation)?;
+        let hyps = t.hyps.copy();
+        let prop = conclusions::at_value(alloc, value, &t.prop);
+        let rule = derivations::all_elim(value, &t.derivation);
         Thm::by(alloc, rule, hyps, prop)
     }
 
@@ -261,9 +285,9 @@ impl Thm {
         ensures memory { IfErr result (λ w. w ≡ Memory) }
     {
         steps::equations_are_shown();
-        let prop = conclusions::reflexive(alloc, value)?;
-        let rule = derivations::refl(value)?;
-        Thm::by(alloc, rule, Terms::Nil, prop)
+        let prop = conclusions::reflexive(alloc, value);
+        let rule = derivations::refl(value);
+        Thm::by(alloc, rule, Ok(Terms::Nil), prop)
     }
 
     /// ```text
@@ -281,9 +305,9 @@ impl Thm {
         ensures memory { IfErr result (λ w. w ≡ Memory) }
     {
         steps::equations_are_shown();
-        let hyps = t.hyps.copy()?;
-        let prop = conclusions::turned(alloc, &t.prop)?;
-        let rule = derivations::sym(&t.derivation)?;
+        let hyps = t.hyps.copy();
+        let prop = conclusions::turned(alloc, &t.prop);
+        let rule = derivations::sym(&t.derivation);
         Thm::by(alloc, rule, hyps, prop)
     }
 
@@ -302,9 +326,9 @@ impl Thm {
         ensures memory { IfErr result (λ w. w ≡ Memory) }
     {
         steps::equations_are_shown();
-        let hyps = a.hyps.union(alloc, &b.hyps)?;
-        let prop = conclusions::joined(alloc, &a.prop, &b.prop)?;
-        let rule = derivations::trans(&a.derivation, &b.derivation)?;
+        let hyps = a.hyps.union(alloc, &b.hyps);
+        let prop = conclusions::joined(alloc, &a.prop, &b.prop);
+        let rule = derivations::trans(&a.derivation, &b.derivation);
         Thm::by(alloc, rule, hyps, prop)
     }
 
@@ -314,20 +338,18 @@ impl Thm {
     ///    H and K |- f x == g y
     /// ```
     ///
-    /// where f and g take arguments of x's type. Fails where memory runs out; with `Number` only where an index or a depth
-    /// that is made on the way is 4,294,967,295 or more.
+    /// where f and g take arguments of x's type. Fails where memory runs out.
     pub fn comb(alloc: Global, f: &Thm, x: &Thm) -> Mem<Thm>
         requires { CanComb f.now.prop x.now.prop }
         ensures hyps { IfOk result (λ r. r.hyps ≡ (by_comb (said f.now) (said x.now)).hyps) }
         ensures prop { IfOk result (λ r. r.prop ≡ (by_comb (said f.now) (said x.now)).prop) }
         ensures derivation { IfOk result (λ r. r.derivation ≡ comb f.now.derivation x.now.derivation) }
-        ensures number { let c = side_type f.now.prop in IfErr result (λ w. w ≡ Number
-            → IsPast (made_happ c (lhs f.now.prop) (one (lhs x.now.prop)) ++ made_happ c (rhs f.now.prop) (one (rhs x.now.prop)))) }
+        ensures memory { IfErr result (λ w. w ≡ Memory) }
     {
         steps::congruences_are_shown();
-        let hyps = f.hyps.union(alloc, &x.hyps)?;
-        let prop = conclusions::applied(alloc, &f.prop, &x.prop)?;
-        let rule = derivations::comb(&f.derivation, &x.derivation)?;
+        let hyps = f.hyps.union(alloc, &x.hyps);
+        let prop = conclusions::applied(alloc, &f.prop, &x.prop);
+        let rule = derivations::comb(&f.derivation, &x.derivation);
         Thm::by(alloc, rule, hyps, prop)
     }
 
@@ -337,21 +359,19 @@ impl Thm {
     /// H |- (%x. s) == (%x. t)
     /// ```
     ///
-    /// for the variable x of this name and type, where no free variable of this name, of whatever type, stands in H; one of
-    /// the same name and another type stays as it is in s and t. Fails where memory runs out; with `Number` only where an index or
-    /// a depth that is made on the way is 4,294,967,295 or more.
+    /// for the variable x of this name and type, where no free variable of this name, of whatever type, stands in H;
+    /// one of the same name and another type stays as it is in s and t. Fails where memory runs out.
     pub fn abs(alloc: Global, name: &Name, typ: &Typ, t: &Thm) -> Mem<Thm>
         requires { CanAbs name.now t.now.hyps t.now.prop }
         ensures hyps { IfOk result (λ r. r.hyps ≡ (by_abs name.now typ.now (said t.now)).hyps) }
         ensures prop { IfOk result (λ r. r.prop ≡ (by_abs name.now typ.now (said t.now)).prop) }
         ensures derivation { IfOk result (λ r. r.derivation ≡ abs name.now typ.now t.now.derivation) }
-        ensures number { IfErr result (λ w. w ≡ Number
-            → IsPast (made_raise 1 0 (lhs t.now.prop) ++ made_raise 1 0 (rhs t.now.prop))) }
+        ensures memory { IfErr result (λ w. w ≡ Memory) }
     {
         steps::congruences_are_shown();
-        let hyps = t.hyps.copy()?;
-        let prop = conclusions::abstracted(alloc, name, typ, &t.prop)?;
-        let rule = derivations::abs(name, typ, &t.derivation)?;
+        let hyps = t.hyps.copy();
+        let prop = conclusions::abstracted(alloc, name, typ, &t.prop);
+        let rule = derivations::abs(name, typ, &t.derivation);
         Thm::by(alloc, rule, hyps, prop)
     }
 
@@ -370,9 +390,9 @@ impl Thm {
         ensures memory { IfErr result (λ w. w ≡ Memory) }
     {
         steps::equations_are_shown();
-        let hyps = a.hyps.union(alloc, &b.hyps)?;
-        let prop = conclusions::equivalent(alloc, &a.prop)?;
-        let rule = derivations::eq_intr(&a.derivation, &b.derivation)?;
+        let hyps = a.hyps.union(alloc, &b.hyps);
+        let prop = conclusions::equivalent(alloc, &a.prop);
+        let rule = derivations::eq_intr(&a.derivation, &b.derivation);
         Thm::by(alloc, rule, hyps, prop)
     }
 
@@ -391,9 +411,9 @@ impl Thm {
         ensures memory { IfErr result (λ w. w ≡ Memory) }
     {
         steps::equations_are_shown();
-        let hyps = eq.hyps.union(alloc, &t.hyps)?;
-        let prop = eq.prop.consequent().copy()?;
-        let rule = derivations::eq_elim(&eq.derivation, &t.derivation)?;
+        let hyps = eq.hyps.union(alloc, &t.hyps);
+        let prop = eq.prop.consequent().copy();
+        let rule = derivations::eq_elim(&eq.derivation, &t.derivation);
         Thm::by(alloc, rule, hyps, prop)
     }
 
@@ -412,9 +432,9 @@ impl Thm {
         ensures memory { IfErr result (λ w. w ≡ Memory) }
     {
         steps::propositions_are_shown();
-        let hyps = t.hyps.copy()?;
-        let concluded = prop.copy()?;
-        let rule = derivations::conv(prop, &t.derivation)?;
+        let hyps = t.hyps.copy();
+        let concluded = prop.copy();
+        let rule = derivations::conv(prop, &t.derivation);
         Thm::by(alloc, rule, hyps, concluded)
     }
 
@@ -424,21 +444,21 @@ impl Thm {
     /// H(s) |- A(s)
     /// ```
     ///
-    /// for types and terms put for variables, all at once, where each term has its variable's type, and no type variable or
-    /// free variable that is replaced stands in H. Hypotheses that become equal are kept once. Fails where memory runs out;
-    /// with `Number` only where an index or a depth that is made on the way is 4,294,967,295 or more.
+    /// for types and terms put for variables, all at once, where each term has its variable's type, and no type
+    /// variable or free variable that is replaced stands in H. Hypotheses that become equal are kept once. Fails where
+    /// memory runs out.
     pub fn inst(alloc: Global, s: &Instance, t: &Thm) -> Mem<Thm>
         requires { CanInst s.now t.now.hyps }
         ensures hyps { IfOk result (λ r. r.hyps ≡ (by_inst s.now (said t.now)).hyps) }
         ensures prop { IfOk result (λ r. r.prop ≡ (by_inst s.now (said t.now)).prop) }
         ensures derivation { IfOk result (λ r. r.derivation ≡ inst s.now t.now.derivation) }
-        ensures number { IfErr result (λ w. w ≡ Number → IsPast (made_instanced_all s.now t.now.hyps ++ made_instanced s.now t.now.prop)) }
+        ensures memory { IfErr result (λ w. w ≡ Memory) }
     {
         steps::instances_are_shown();
         are_keys_apart(s);
-        let hyps = instanced_hyps(alloc, s, t.hyps())?;
-        let prop = instanced(alloc, s, t.prop())?;
-        let rule = derivations::inst(alloc, s, &t.derivation)?;
+        let hyps = instanced_hyps(alloc, s, t.hyps());
+        let prop = instanced(alloc, s, t.prop());
+        let rule = derivations::inst(alloc, s, &t.derivation);
         Thm::by(alloc, rule, hyps, prop)
     }
 }

@@ -8,3 +8,4 @@ pub mod Values
 pub mod Code
 pub mod Loops
 pub mod Apart
+pub mod Passing

@@ -7,7 +7,7 @@ use Rattle.iv_subst.specs.TySubst.{TyMap, put_typ, put_typs, at}
 use Rattle.iv_hsub.specs.Retype.{retype}
 use Rattle.iv_put.specs.Subst.{by_map, applied}
 use Rattle.iv_put.specs.Laws.{MapsAreFunctions, ApplyKeepsTypes, NothingStays, ComposedIsBoth, ComposedCanApply, NextCanApply, ComposedIsClosed}
-use Rattle.iv_hsub.proofs.Terms.Retype.{retype-has}
+use Rattle.iv_hsub.proofs.Theory.{retype-has}
 use Rattle.iv_put.proofs.Facts.Entries.{map-by, maps-by, applied-term, applied-nothing, apply-compose, can_apply-compose, can_apply-next, closed-composed}
 
 pub retype_keeps : (s : TyMap) (bounds : Types) (t : Term) → IsTerm bounds t

@@ -1,4 +1,4 @@
 pub mod Subst
-pub mod Made
 pub mod Laws
 pub mod Entries
+pub mod Putting

@@ -4,16 +4,14 @@ ghost use Rattle.std.specs.Option.{unwrap_or};
 ghost use Rattle.iv_term.specs.declared.typ.Types.{Types};
 ghost use Rattle.iv_term.specs.declared.term.Terms.{Terms};
 ghost use Rattle.iv_term.specs.declared.term.Term.TheBlock.{Spine};
-ghost use Rattle.iv_text.specs.declared.want.Want.TheVariants.{Memory, Number};
+ghost use Rattle.iv_text.specs.declared.want.Want.TheVariants.{Memory};
 ghost use Rattle.iv_hsub.specs.Typing.{type_of, IsTerm, HasType};
 ghost use Rattle.iv_hsub.specs.Hsub.{happ};
-ghost use Rattle.iv_hsub.specs.Made.{IsPast, made_happ, made_inst_head, made_inst_all};
 ghost use Rattle.iv_subst.specs.TySubst.{put_typ, put_typs, at};
 ghost use Rattle.iv_hsub.specs.Retype.{retype_head, retype_all};
 ghost use Rattle.iv_hsub.specs.Inst.{inst_head, inst_all};
 ghost use Rattle.iv_put.specs.Subst.{by_map, values, applied, CanApply};
 ghost use Rattle.iv_hsub.specs.Open.{IsOpenTerm, IsShort, AreShort};
-ghost use Rattle.iv_put.specs.Made.{made_applied};
 
 use crate::retyping::{changed_head, changed_typ};
 use crate::substitution::Subst;
@@ -27,14 +25,13 @@ use std::alloc::Global;
 impl Subst {
     /// A term with the types put in it, and then all terms at once, by hereditary substitution: where each value has
     /// its variable's type, the result is a term, of the term's type with types put in. What isn't touched is shared.
-    /// Fails where memory runs out; with `Number` only where an index or a depth that is made on the way is 4,294,967,295
-    /// or more.
+    /// Fails where memory runs out.
     pub fn apply(&self, alloc: Global, t: &Term) -> Mem<Term>
         requires { IsOpenTerm t.now }
         ensures ok { IfOk result (λ r. r ≡ applied self.now t.now) }
         ensures typed { (bounds : Types) → IsTerm bounds t.now → CanApply self.now t.now
             → IfOk result (λ r. HasType (put_typs (at self.now.0) bounds) (put_typ (at self.now.0) (type_of bounds t.now)) r) }
-        ensures number { IfErr result (λ w. w ≡ Number → IsPast (made_applied self.now t.now)) }
+        ensures memory { IfErr result (λ w. w ≡ Memory) }
     {
         match changed(alloc, t, self)? {
             None => t.copy(),
@@ -46,8 +43,7 @@ impl Subst {
     fn value_at<'a>(&'a self, h: &'a Head) -> Option<(&'a Term, &'a Typ)>
         ensures { MatchOption result
             ((us : Terms) → inst_head (values self.now) (retype_head (by_map self.now.0) h.now) us ≡ Spine (retype_head (by_map self.now.0) h.now) us)
-            (λ r. (us : Terms) → (inst_head (values self.now) (retype_head (by_map self.now.0) h.now) us ≡ happ (put_typ (at self.now.0) r.1.now) r.0.now us)
-            × (made_inst_head (values self.now) (retype_head (by_map self.now.0) h.now) us ≡ made_happ (put_typ (at self.now.0) r.1.now) r.0.now us)) }
+            (λ r. (us : Terms) → inst_head (values self.now) (retype_head (by_map self.now.0) h.now) us ≡ happ (put_typ (at self.now.0) r.1.now) r.0.now us) }
     {
         match h {
             Head::Const(_c, _a) => None,
@@ -65,7 +61,7 @@ impl Subst {
 #[cycle(changed)]
 fn changed(alloc: Global, t: &Term, s: &Subst) -> Mem<Option<Term>>
     ensures ok { IsShort t.now → IfOk result (λ r. unwrap_or r t.now ≡ applied s.now t.now) }
-    ensures number { IsShort t.now → IfErr result (λ w. w ≡ Number → IsPast (made_applied s.now t.now)) }
+    ensures memory { IfErr result (λ w. w ≡ Memory) }
 {
     match t {
         Term::Abs(a, b) => {
@@ -84,7 +80,7 @@ fn changed(alloc: Global, t: &Term, s: &Subst) -> Mem<Option<Term>>
 #[cycle(changed)]
 fn changed_all(alloc: Global, ts: &Terms, s: &Subst) -> Mem<Option<Terms>>
     ensures ok { AreShort ts.now → IfOk result (λ r. unwrap_or r ts.now ≡ inst_all (values s.now) (retype_all (by_map s.now.0) ts.now)) }
-    ensures number { AreShort ts.now → IfErr result (λ w. w ≡ Number → IsPast (made_inst_all (values s.now) (retype_all (by_map s.now.0) ts.now))) }
+    ensures memory { IfErr result (λ w. w ≡ Memory) }
 {
     match ts {
         Terms::Nil => Ok(None),
@@ -105,7 +101,7 @@ fn with_head(
     s: &Subst,
 ) -> Mem<Option<Term>>
     ensures ok { IfOk result (λ r. unwrap_or r (Spine h.now old.now) ≡ inst_head (values s.now) (retype_head (by_map s.now.0) h.now) (unwrap_or args old.now)) }
-    ensures number { IfErr result (λ w. w ≡ Number → IsPast (made_inst_head (values s.now) (retype_head (by_map s.now.0) h.now) (unwrap_or args old.now))) }
+    ensures memory { IfErr result (λ w. w ≡ Memory) }
 {
     match s.value_at(h) {
         None => {

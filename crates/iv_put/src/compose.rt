@@ -3,10 +3,8 @@ ghost use Rattle.std.specs.Prelude.{◌≡◌, ◌++◌, IfOk, IfErr, OnOk};
 ghost use Rattle.std.specs.List.{IsDistinct};
 ghost use Rattle.std.specs.Map.{keys_of};
 ghost use Rattle.iv_text.specs.Name.{same_name};
-ghost use Rattle.iv_text.specs.declared.want.Want.TheVariants.{Memory, Number};
-ghost use Rattle.iv_hsub.specs.Made.{IsPast};
+ghost use Rattle.iv_text.specs.declared.want.Want.TheVariants.{Memory};
 ghost use Rattle.iv_put.specs.Subst.{under, unhidden, composed, CanCompose};
-ghost use Rattle.iv_put.specs.Made.{made_under};
 
 use crate::substitution::Subst;
 use iv_text::Mem;
@@ -14,12 +12,11 @@ use std::alloc::Global;
 
 impl Subst {
     /// The substitution that puts this one's types and terms, and then those of `next`. The entries of this one come
-    /// first. Fails where memory runs out; with `Number` only where an index or a depth that is made on the way is
-    /// 4,294,967,295 or more.
+    /// first. Fails where memory runs out.
     pub fn compose(&self, alloc: Global, next: &Subst) -> Mem<Subst>
         requires { CanCompose self.now next.now }
         ensures ok { IfOk result (λ s. s ≡ composed self.now next.now) }
-        ensures number { IfErr result (λ w. w ≡ Number → IsPast (made_under next.now self.now.1)) }
+        ensures memory { IfErr result (λ w. w ≡ Memory) }
     {
         let _entries = self.len();
         let _next = next.len();
@@ -35,7 +32,7 @@ impl Subst {
         requires fits { CanCompose self.now next.now }
         requires apart { IsDistinct same_name (keys_of (both.old.1 ++ under next.now self.now.1)) }
         ensures ok { OnOk result (both.new ≡ (both.old.0, both.old.1 ++ under next.now self.now.1)) }
-        ensures number { IfErr result (λ w. w ≡ Number → IsPast (made_under next.now self.now.1)) }
+        ensures memory { IfErr result (λ w. w ≡ Memory) }
     {
         for i in 0..self.len() {
             let (name, value) = self.entry(i);

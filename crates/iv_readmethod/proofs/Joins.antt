@@ -1,7 +1,7 @@
 -- Parts joined in a loop.
 use Rattle.std.proofs.Common.{◌≡◌, ℕ, zero, suc, ◌+◌, ◌-◌, ◌<◌, ◌≤◌, Bool, true, false, List, [], ◌∷◌, length, drop, refl, arith, add-one}
 use Rattle.std.proofs.Math.ListN.{drop_of_length-le}
-use Rattle.std.specs.Prelude.{Some, None, Result, Ok, Err, IsErrAnd, IfErr}
+use Rattle.std.specs.Prelude.{Some, Result, Ok, Err, IsErrAnd, IfErr}
 use Rattle.iv_text.specs.declared.Pos.{Pos}
 use Rattle.iv_forms.specs.declared.fact.Fact.{Fact}
 use Rattle.iv_forms.specs.declared.method.MethodText.{MethodText}
@@ -11,10 +11,17 @@ use Rattle.iv_readmethod.specs.declared.levelled.Levelled.{Levelled}
 use Rattle.iv_readmethod.specs.declared.levelled.Join.{Join}
 use Rattle.iv_readmethod.specs.declared.levelled.Join.TheVariants as VJoin
 use Rattle.iv_facts.specs.declared.stop.Stop.TheVariants as stop
-use Rattle.iv_facts.specs.Found.{Found, got, wrong, deep, then_, IsStop, stop_at}
+use Rattle.iv_facts.specs.Found.{Found, got, wrong, deep, then_, unless_deep, IsStop, stop_at}
 use Rattle.iv_facts.specs.Facts.{facts}
 use Rattle.iv_readmethod.specs.Methods.{joins, flat, more, past, noted, noted_facts, alt, linked, operand, inside, settled}
 use Rattle.iv_facts.proofs.Steps.{left_over, stopped}
+
+-- three parts in a row
+pub then_then : {A B C : Type 0} (f : Found A) (g : A → List Lexeme → Found B) (h : B → List Lexeme → Found C) → then_ (then_ f g) h ≡ then_ f (λ x us. then_ (g x us) h)
+unfolding then_
+then_then (got x us) g h = refl
+then_then wrong g h = refl
+then_then (deep p) g h = refl
 
 module _ {A B : Type 0} (goes : List Lexeme → Bool) (item : List Lexeme → Found B) (join : A → B → List Lexeme → Found A) where
   -- one more part
@@ -40,11 +47,20 @@ module _ {A B : Type 0} (goes : List Lexeme → Bool) (item : List Lexeme → Fo
   joins_stopped e found steps ts i b g h =
       rw ((left_over steps i b).1, g) (stopped e (item ts) (λ x us. then_ (join found x us) (λ y vs. joins goes item join y (drop (suc i) steps) vs)) h)
 
-  -- one can't be joined
-  pub joins_refused : (e : Stop) (x : B) (found : A) (steps ts us : List Lexeme) (i : ℕ) → i < length steps → goes ts ≡ true → item ts ≡ got x us → IsStop e (join found x us)
-      → IsStop e (joins goes item join found (drop i steps) ts)
+  -- one more part, read and joined in one step
+  pub joins_joined : (start : Found A) (found more : A) (steps ts vs : List Lexeme) (i : ℕ) → start ≡ joins goes item join found (drop i steps) ts
+      → i < length steps → goes ts ≡ true → then_ (item ts) (λ x us. join found x us) ≡ got more vs → start ≡ joins goes item join more (drop (i + 1) steps) vs
   unfolding joins then_
-  joins_refused e x found steps ts us i b g h m = rw ((left_over steps i b).1, g, h) (stopped e (join found x us) (λ y vs. joins goes item join y (drop (suc i) steps) vs) m)
+  joins_joined start found more steps ts vs i s b g h =
+      rw (s, (left_over steps i b).1, g, ← then_then (item ts) (λ x us. join found x us) (λ y vs. joins goes item join y (drop (suc i) steps) vs), h, add-one i) refl
+
+  -- one can't be read or joined
+  pub joins_refused : (e : Stop) (found : A) (steps ts : List Lexeme) (i : ℕ) → i < length steps → goes ts ≡ true → IsStop e (then_ (item ts) (λ x us. join found x us))
+      → IsStop e (joins goes item join found (drop i steps) ts)
+  unfolding joins
+  joins_refused e found steps ts i b g h =
+      rw ((left_over steps i b).1, g, ← then_then (item ts) (λ x us. join found x us) (λ y vs. joins goes item join y (drop (suc i) steps) vs))
+      (stopped e (then_ (item ts) (λ x us. join found x us)) (λ y vs. joins goes item join y (drop (suc i) steps) vs) h)
 
 -- one more part of a list
 pub lists_next : {A : Type 0} (goes : List Lexeme → Bool) (item : List Lexeme → Found (Levelled A)) (start : Found (Levelled (List A))) (x : Levelled A) (found after : Levelled (List A)) (steps ts us : List Lexeme) (i : ℕ)
@@ -79,13 +95,13 @@ unfolding noted_facts noted
 noted_wrong ts e = rw e refl
 
 -- a method, and what was noted in it
-pub settled_got : {m : Levelled MethodText} {us : List Lexeme} {f : Found (Levelled MethodText)} (ts : List Lexeme) → f ≡ got m us → m.deep ≡ None → settled ts f ≡ got m.value us
+pub settled_got : {m : Levelled MethodText} {x : MethodText} {us vs : List Lexeme} {f : Found (Levelled MethodText)} (ts : List Lexeme) → f ≡ got m us → unless_deep m.deep m.value us ≡ got x vs → settled ts f ≡ got x vs
 unfolding settled
-settled_got ts e d = rw (e, d) refl
+settled_got ts e d = rw e d
 
-pub settled_noted : {m : Levelled MethodText} {p : Pos} {us : List Lexeme} {f : Found (Levelled MethodText)} (ts : List Lexeme) → f ≡ got m us → m.deep ≡ Some p → settled ts f ≡ deep p
+pub settled_is : {m : Levelled MethodText} {us : List Lexeme} {f : Found (Levelled MethodText)} (ts : List Lexeme) → f ≡ got m us → settled ts f ≡ unless_deep m.deep m.value us
 unfolding settled
-settled_noted ts e d = rw (e, d) refl
+settled_is ts e = rw e refl
 
 pub settled_stopped : (e : Stop) (ts : List Lexeme) (f : Found (Levelled MethodText)) → IsStop e f → IsStop (stop_at e ts) (settled ts f)
 unfolding settled

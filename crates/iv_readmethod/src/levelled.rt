@@ -1,13 +1,14 @@
 //! Parts of methods with their levels.
 ghost use Rattle.std.specs.Prelude.{◌≡◌, IfOk, IfErr, OnOk};
 ghost use Rattle.iv_text.specs.declared.want.Want.TheVariants.{Memory};
-ghost use Rattle.iv_facts.specs.Found.{got, IsStop};
+ghost use Rattle.iv_facts.specs.Found.{got, one, IsStop};
 ghost use Rattle.iv_facts.specs.FactLevels.{first_of};
 ghost use Rattle.iv_readmethod.specs.Methods.{flat, more, raised};
 
 use iv_facts::Stop;
-use iv_facts::tokens::place;
+use iv_facts::tokens::{one, place};
 use iv_forms::{Items, Lexeme};
+use iv_recogniser::Sort;
 use iv_text::{Mem, Pos};
 
 /// A part of a method.
@@ -73,6 +74,21 @@ pub(crate) fn raised<T: Drop>(
     } else {
         Err(Stop::Deep(place(tokens)))
     }
+}
+
+/// A part, the token of a set behind it, and the tokens behind that. Generic, so that no drop of a method is written out at
+/// its exits.
+pub(crate) fn closed<T: Drop>(
+    part: T,
+    tokens: &[Lexeme],
+    sort: Sort,
+) -> Result<(T, &Lexeme, &[Lexeme]), Stop>
+    ensures part { IfOk result (λ r. r.0 ≡ part) }
+    ensures ok { IfOk result (λ r. one sort tokens.now ≡ got r.1.now r.2.now) }
+    ensures err { IfErr result (λ e. IsStop e (one sort tokens.now)) }
+{
+    let (token, rest) = one(tokens, sort)?;
+    Ok((part, token, rest))
 }
 
 /// One more part of a list.

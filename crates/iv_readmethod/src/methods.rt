@@ -3,16 +3,21 @@ ghost use Rattle.std.specs.Prelude.{◌≡◌, ◌&&◌, ◌||◌, [], ◌∷◌
 ghost use Rattle.iv_recogniser.specs.declared.class.Class.TheVariants as class;
 ghost use Rattle.iv_recogniser.specs.declared.class.Sort.TheVariants as sort;
 ghost use Rattle.iv_text.specs.declared.want.Want.TheVariants.{Memory};
-ghost use Rattle.iv_facts.specs.Found.{got, IsStop, begins, behind};
-ghost use Rattle.iv_readmethod.specs.Methods.{opens, closes, brackets, stays, past, noted_facts, section, sections, alone, subject_term, subject, rule, suffix, both, raised, between, joined, goes_arg, parens, core, method, arg, args, call, case, more_cases, match_, item, operand, linked, inside, a_method, opt_method};
+ghost use Rattle.iv_forms.specs.declared.method.Arg.TheVariants as VArg;
+ghost use Rattle.iv_forms.specs.declared.method.Case.TheVariants as VCase;
+ghost use Rattle.iv_forms.specs.declared.method.MethodText.TheVariants as VMethod;
+ghost use Rattle.iv_facts.specs.Found.{got, then_, one, unless_deep, IsStop, begins, behind};
+ghost use Rattle.iv_facts.specs.Props.{opt_for};
+ghost use Rattle.iv_readmethod.specs.Patterns.{opt_nat};
+ghost use Rattle.iv_readmethod.specs.Methods.{flat, mapped, opens, closes, brackets, stays, past, noted_facts, section, sections, alone, subject_term, subject, rule, suffix, both, raised, between, joined, goes_arg, parens, core, method, arg, args, call, case, more_cases, cases, match_, item, operand, linked, inside, a_method, opt_method};
 
-use crate::levelled::{Join, Levelled, first_of, flat, more, raised};
+use crate::levelled::{Join, Levelled, closed, first_of, flat, more, raised};
 use crate::patterns::{more_patterns, named, opt_nat, pattern};
 use iv_facts::Stop;
 use iv_facts::facts::{LIMIT, facts, goes_fact};
 use iv_facts::props::opt_for;
 use iv_facts::tokens::{begins, behind, one, place, skip, stop_at};
-use iv_forms::{Arg, Case, Fact, Items, Lexeme, MethodText, Section, Subject};
+use iv_forms::{Arg, Case, Fact, Items, Lexeme, MethodText, Pattern, Section, Subject, VarGroup};
 use iv_recogniser::{Class, Sort};
 use iv_shared::Shared;
 use std::alloc::{AllocError, Global};
@@ -92,10 +97,11 @@ fn section(alloc: Global, tokens: &[Lexeme]) -> Result<(Levelled<Section>, &[Lex
 {
     let (name, rest) = one(tokens, Sort::Identifier)?;
     let (_colon, rest) = one(rest, Sort::Only(Class::Colon))?;
+    let name = name.token.copy()?;
     let (facts, rest) = noted_facts(alloc, rest)?;
     let section = Levelled {
         value: Section {
-            name: name.token.copy()?,
+            name,
             facts: facts.value,
         },
         levels: facts.levels,
@@ -174,13 +180,96 @@ fn rule(alloc: Global, tokens: &[Lexeme]) -> Result<(Levelled<MethodText>, &[Lex
     ensures err { IfErr result (λ e. IsStop e (rule tokens.now)) }
 {
     let (word, rest) = one(tokens, Sort::Only(Class::Rule))?;
+    let word = word.token.copy()?;
     let (facts, rest) = noted_facts(alloc, rest)?;
     let rule = Levelled {
-        value: MethodText::Rule(word.token.copy()?, facts.value),
+        value: MethodText::Rule(word, facts.value),
         levels: facts.levels,
         deep: facts.deep,
     };
     Ok((rule, rest))
+}
+
+/// `m?`, where so many levels are left; the tokens are those behind it.
+fn tried(
+    alloc: Global,
+    left: u32,
+    method: Levelled<MethodText>,
+    tokens: &[Lexeme],
+) -> Result<(Levelled<MethodText>, &[Lexeme]), Stop>
+    ensures ok { IfOk result (λ r. raised left (mapped VMethod.Try method) tokens.now ≡ got r.0 r.1.now) }
+    ensures err { IfErr result (λ e. IsStop e (raised left (mapped VMethod.Try method) tokens.now)) }
+{
+    let tried = Levelled {
+        value: MethodText::Try(Shared::new(alloc, method.value)?),
+        levels: method.levels,
+        deep: method.deep,
+    };
+    raised(tried, left, tokens)
+}
+
+/// `m+`, where so many levels are left; the tokens are those behind it.
+fn repeated(
+    alloc: Global,
+    left: u32,
+    method: Levelled<MethodText>,
+    tokens: &[Lexeme],
+) -> Result<(Levelled<MethodText>, &[Lexeme]), Stop>
+    ensures ok { IfOk result (λ r. raised left (mapped VMethod.Repeat method) tokens.now ≡ got r.0 r.1.now) }
+    ensures err { IfErr result (λ e. IsStop e (raised left (mapped VMethod.Repeat method) tokens.now)) }
+{
+    let repeated = Levelled {
+        value: MethodText::Repeat(Shared::new(alloc, method.value)?),
+        levels: method.levels,
+        deep: method.deep,
+    };
+    raised(repeated, left, tokens)
+}
+
+/// `m[n]`, where so many levels are left; the tokens are those behind it.
+fn first(
+    alloc: Global,
+    left: u32,
+    method: Levelled<MethodText>,
+    count: u32,
+    tokens: &[Lexeme],
+) -> Result<(Levelled<MethodText>, &[Lexeme]), Stop>
+    ensures ok { IfOk result (λ r. raised left (mapped (λ m. VMethod.First m count) method) tokens.now ≡ got r.0 r.1.now) }
+    ensures err { IfErr result (λ e. IsStop e (raised left (mapped (λ m. VMethod.First m count) method) tokens.now)) }
+{
+    let first = Levelled {
+        value: MethodText::First(Shared::new(alloc, method.value)?, count),
+        levels: method.levels,
+        deep: method.deep,
+    };
+    raised(first, left, tokens)
+}
+
+/// A part, the number behind it, which is 1 where it is absent, and the tokens behind that. Generic, so that no drop of a
+/// method is written out at its exits.
+fn counted<T: Drop>(part: T, tokens: &[Lexeme]) -> Result<(T, u32, &[Lexeme]), Stop>
+    ensures part { IfOk result (λ r. r.0 ≡ part) }
+    ensures ok { IfOk result (λ r. opt_nat tokens.now ≡ got r.1 r.2.now) }
+    ensures err { IfErr result (λ e. IsStop e (opt_nat tokens.now)) }
+{
+    let (count, rest) = opt_nat(tokens)?;
+    Ok((part, count, rest))
+}
+
+/// `m[n]`, where so many levels are left, by the tokens behind `[`, and those behind it.
+#[tactic(auto, using(iv_facts::proofs::Steps::stopped, iv_facts::proofs::Steps::went_on), unfolding(iv_facts::specs::Found::then_))]
+fn cut_off(
+    alloc: Global,
+    left: u32,
+    method: Levelled<MethodText>,
+    tokens: &[Lexeme],
+) -> Result<(Levelled<MethodText>, &[Lexeme]), Stop>
+    ensures ok { IfOk result (λ r. then_ (opt_nat tokens.now) (λ n us. then_ (one (sort.Only class.Right) us) (λ b vs. raised left (mapped (λ m. VMethod.First m n) method) vs)) ≡ got r.0 r.1.now) }
+    ensures err { IfErr result (λ e. IsStop e (then_ (opt_nat tokens.now) (λ n us. then_ (one (sort.Only class.Right) us) (λ b vs. raised left (mapped (λ m. VMethod.First m n) method) vs)))) }
+{
+    let (method, count, rest) = counted(method, tokens)?;
+    let (method, _right, rest) = closed(method, rest, Sort::Only(Class::Right))?;
+    first(alloc, left, method, count, rest)
 }
 
 /// What may stand behind a method, where so many levels are left, and the tokens behind it.
@@ -195,33 +284,14 @@ fn suffix(
     ensures err { IfErr result (λ e. IsStop e (suffix left method tokens.now)) }
 {
     if begins(tokens, Sort::Only(Class::Question)) {
-        let tried = Levelled {
-            value: MethodText::Try(Shared::new(alloc, method.value)?),
-            levels: method.levels,
-            deep: method.deep,
-        };
-        return raised(tried, left, behind(tokens));
+        return tried(alloc, left, method, behind(tokens));
     }
     if begins(tokens, Sort::Only(Class::Plus)) {
-        let repeated = Levelled {
-            value: MethodText::Repeat(Shared::new(alloc, method.value)?),
-            levels: method.levels,
-            deep: method.deep,
-        };
-        return raised(repeated, left, behind(tokens));
+        return repeated(alloc, left, method, behind(tokens));
     }
     match skip(tokens, Sort::Only(Class::Left)) {
         None => Ok((method, tokens)),
-        Some(rest) => {
-            let (count, rest) = opt_nat(rest)?;
-            let (_right, rest) = one(rest, Sort::Only(Class::Right))?;
-            let first = Levelled {
-                value: MethodText::First(Shared::new(alloc, method.value)?, count),
-                levels: method.levels,
-                deep: method.deep,
-            };
-            raised(first, left, rest)
-        }
+        Some(rest) => cut_off(alloc, left, method, rest),
     }
 }
 
@@ -267,6 +337,30 @@ fn between(join: Join) -> Class
     }
 }
 
+/// Two shared methods together.
+fn join_of(join: Join, first: Shared<MethodText>, second: Shared<MethodText>) -> MethodText
+    ensures { result ≡ joined join first second }
+{
+    match join {
+        Join::Then => MethodText::Then(first, second),
+        Join::On => MethodText::On(first, second),
+        Join::Or => MethodText::Or(first, second),
+    }
+}
+
+/// Two values, each shared. Generic, so that no drop of a method is written out at its exits.
+fn both_shared<T: Drop>(
+    alloc: Global,
+    first: T,
+    second: T,
+) -> Result<(Shared<T>, Shared<T>), AllocError>
+    ensures { IfOk result (λ p. (p.0 ≡ first) × (p.1 ≡ second)) }
+{
+    let first = Shared::new(alloc, first)?;
+    let second = Shared::new(alloc, second)?;
+    Ok((first, second))
+}
+
 /// Two methods together.
 fn joined(
     alloc: Global,
@@ -276,13 +370,8 @@ fn joined(
 ) -> Result<MethodText, AllocError>
     ensures { IfOk result (λ m. m ≡ joined join first second) }
 {
-    let first = Shared::new(alloc, first)?;
-    let second = Shared::new(alloc, second)?;
-    Ok(match join {
-        Join::Then => MethodText::Then(first, second),
-        Join::On => MethodText::On(first, second),
-        Join::Or => MethodText::Or(first, second),
-    })
+    let (first, second) = both_shared(alloc, first, second)?;
+    Ok(join_of(join, first, second))
 }
 
 /// Two methods together, where so many levels are left; the tokens are those behind them.
@@ -318,8 +407,18 @@ fn parens(
 {
     let (_open, rest) = one(tokens, Sort::Only(Class::Open))?;
     let (method, rest) = inside(alloc, left, rest)?;
-    let (_close, rest) = one(rest, Sort::Only(Class::Close))?;
+    let (method, _close, rest) = closed(method, rest, Sort::Only(Class::Close))?;
     raised(method, left, rest)
+}
+
+/// A method that is a name, and the tokens behind it.
+#[tactic(auto, using(iv_facts::proofs::Steps::stopped, iv_facts::proofs::Steps::went_on), unfolding(iv_facts::specs::Found::then_))]
+fn name(tokens: &[Lexeme]) -> Result<(Levelled<MethodText>, &[Lexeme]), Stop>
+    ensures ok { IfOk result (λ r. then_ (one sort.Name tokens.now) (λ n us. got (flat (VMethod.Name n.token)) us) ≡ got r.0 r.1.now) }
+    ensures err { IfErr result (λ e. IsStop e (then_ (one sort.Name tokens.now) (λ n us. got (flat (VMethod.Name n.token)) us))) }
+{
+    let (name, rest) = one(tokens, Sort::Name)?;
+    Ok((flat(MethodText::Name(name.token.copy()?)), rest))
 }
 
 /// A name, `-` or a method in parentheses, and the tokens behind it.
@@ -345,8 +444,7 @@ fn core(
     if begins(tokens, Sort::Only(Class::Minus)) {
         return Ok((flat(MethodText::Dash), behind(tokens)));
     }
-    let (name, rest) = one(tokens, Sort::Name)?;
-    Ok((flat(MethodText::Name(name.token.copy()?)), rest))
+    name(tokens)
 }
 
 /// A method that is no call, where so many levels are left, and the tokens behind it.
@@ -362,6 +460,16 @@ fn method(
 {
     let (core, rest) = core(alloc, left, tokens)?;
     suffix(alloc, left, rest, core)
+}
+
+/// An argument that is a term, and the tokens behind it.
+#[tactic(auto, using(iv_facts::proofs::Steps::stopped, iv_facts::proofs::Steps::went_on), unfolding(iv_facts::specs::Found::then_))]
+fn term(tokens: &[Lexeme]) -> Result<(Levelled<Arg>, &[Lexeme]), Stop>
+    ensures ok { IfOk result (λ r. then_ (one sort.Term tokens.now) (λ t us. got (flat (VArg.Term t.token)) us) ≡ got r.0 r.1.now) }
+    ensures err { IfErr result (λ e. IsStop e (then_ (one sort.Term tokens.now) (λ t us. got (flat (VArg.Term t.token)) us))) }
+{
+    let (term, rest) = one(tokens, Sort::Term)?;
+    Ok((flat(Arg::Term(term.token.copy()?)), rest))
 }
 
 /// An argument of a call, and the tokens behind it.
@@ -380,8 +488,7 @@ fn arg(alloc: Global, left: u32, tokens: &[Lexeme]) -> Result<(Levelled<Arg>, &[
         };
         return Ok((arg, rest));
     }
-    let (term, rest) = one(tokens, Sort::Term)?;
-    Ok((flat(Arg::Term(term.token.copy()?)), rest))
+    term(tokens)
 }
 
 /// The arguments of a call, and the tokens behind them.
@@ -420,14 +527,72 @@ fn call(
     ensures err { IfErr result (λ e. IsStop e (call (inside left) left tokens.now)) }
 {
     let (name, rest) = one(tokens, Sort::CallName)?;
+    let name = name.token.copy()?;
     let (args, rest) = args(alloc, left, rest)?;
     let (sections, rest) = sections(alloc, rest)?;
     let call = Levelled {
-        value: MethodText::Call(name.token.copy()?, args.value, sections.value),
+        value: MethodText::Call(name, args.value, sections.value),
         levels: args.levels.max(sections.levels),
         deep: first_of(args.deep, sections.deep),
     };
     Ok((call, rest))
+}
+
+/// A case of these parts, where so many levels are left; the tokens are those behind it.
+#[tactic(auto, using(iv_facts::proofs::Steps::stopped, iv_facts::proofs::Steps::went_on), unfolding(iv_facts::specs::Found::then_))]
+fn case_of(
+    alloc: Global,
+    left: u32,
+    patterns: Items<Pattern>,
+    names: Items<VarGroup>,
+    method: Levelled<MethodText>,
+    tokens: &[Lexeme],
+) -> Result<(Levelled<Case>, &[Lexeme]), Stop>
+    ensures ok { IfOk result (λ r. raised left (mapped (VCase.Case patterns names) method) tokens.now ≡ got r.0 r.1.now) }
+    ensures err { IfErr result (λ e. IsStop e (raised left (mapped (VCase.Case patterns names) method) tokens.now)) }
+{
+    let case = Levelled {
+        value: Case::Case(patterns, names, Shared::new(alloc, method.value)?),
+        levels: method.levels,
+        deep: method.deep,
+    };
+    raised(case, left, tokens)
+}
+
+/// The method of a case, where so many levels are left, and the tokens behind the case.
+#[cycle(method)]
+#[tactic(auto, using(iv_facts::proofs::Steps::stopped, iv_facts::proofs::Steps::went_on), unfolding(iv_facts::specs::Found::then_))]
+fn case_method(
+    alloc: Global,
+    left: u32,
+    patterns: Items<Pattern>,
+    names: Items<VarGroup>,
+    tokens: &[Lexeme],
+) -> Result<(Levelled<Case>, &[Lexeme]), Stop>
+    ensures ok { IfOk result (λ r. then_ (inside left tokens.now) (λ m zs. then_ (one (sort.Only class.OutOf) zs) (λ o us. raised left (mapped (VCase.Case patterns names) m) us)) ≡ got r.0 r.1.now) }
+    ensures err { IfErr result (λ e. IsStop e (then_ (inside left tokens.now) (λ m zs. then_ (one (sort.Only class.OutOf) zs) (λ o us. raised left (mapped (VCase.Case patterns names) m) us)))) }
+{
+    let (method, rest) = inside(alloc, left, tokens)?;
+    let (method, _out, rest) = closed(method, rest, Sort::Only(Class::OutOf))?;
+    case_of(alloc, left, patterns, names, method, rest)
+}
+
+/// What stands behind the patterns of a case, where so many levels are left, and the tokens behind the case.
+#[cycle(method)]
+#[tactic(auto, using(iv_facts::proofs::Steps::stopped, iv_facts::proofs::Steps::went_on), unfolding(iv_facts::specs::Found::then_))]
+fn case_names(
+    alloc: Global,
+    left: u32,
+    patterns: Items<Pattern>,
+    tokens: &[Lexeme],
+) -> Result<(Levelled<Case>, &[Lexeme]), Stop>
+    ensures ok { IfOk result (λ r. then_ (opt_for tokens.now) (λ gs ws. then_ (one (sort.Only class.Arrow) ws) (λ a xs. then_ (one (sort.Only class.Into) xs) (λ i ys. then_ (inside left ys) (λ m zs. then_ (one (sort.Only class.OutOf) zs) (λ o us. raised left (mapped (VCase.Case patterns gs) m) us))))) ≡ got r.0 r.1.now) }
+    ensures err { IfErr result (λ e. IsStop e (then_ (opt_for tokens.now) (λ gs ws. then_ (one (sort.Only class.Arrow) ws) (λ a xs. then_ (one (sort.Only class.Into) xs) (λ i ys. then_ (inside left ys) (λ m zs. then_ (one (sort.Only class.OutOf) zs) (λ o us. raised left (mapped (VCase.Case patterns gs) m) us))))))) }
+{
+    let (names, rest) = opt_for(alloc, tokens)?;
+    let (_arrow, rest) = one(rest, Sort::Only(Class::Arrow))?;
+    let (_into, rest) = one(rest, Sort::Only(Class::Into))?;
+    case_method(alloc, left, patterns, names, rest)
 }
 
 /// A case of `match`, where so many levels are left, and the tokens behind it.
@@ -437,21 +602,11 @@ fn case(alloc: Global, left: u32, tokens: &[Lexeme]) -> Result<(Levelled<Case>, 
     ensures ok { IfOk result (λ r. case (inside left) left tokens.now ≡ got r.0 r.1.now) }
     ensures err { IfErr result (λ e. IsStop e (case (inside left) left tokens.now)) }
 {
-    let mut patterns = Items::new(alloc);
     let (first, rest) = pattern(tokens)?;
+    let mut patterns = Items::new(alloc);
     patterns.push(first)?;
     let rest = more_patterns(rest, &mut patterns)?;
-    let (names, rest) = opt_for(alloc, rest)?;
-    let (_arrow, rest) = one(rest, Sort::Only(Class::Arrow))?;
-    let (_into, rest) = one(rest, Sort::Only(Class::Into))?;
-    let (method, rest) = inside(alloc, left, rest)?;
-    let (_out, rest) = one(rest, Sort::Only(Class::OutOf))?;
-    let case = Levelled {
-        value: Case::Case(patterns, names, Shared::new(alloc, method.value)?),
-        levels: method.levels,
-        deep: method.deep,
-    };
-    raised(case, left, rest)
+    case_names(alloc, left, patterns, rest)
 }
 
 /// Further cases behind those that are there.
@@ -478,9 +633,28 @@ fn more_cases<'a>(
     Ok(rest)
 }
 
+/// `in` and the cases of `match`, and the tokens behind them.
+#[cycle(method)]
+#[tactic(auto, using(iv_facts::proofs::Steps::stopped, iv_facts::proofs::Steps::went_on), unfolding(crate::specs::Methods::cases, iv_facts::specs::Found::then_))]
+fn cases(
+    alloc: Global,
+    left: u32,
+    tokens: &[Lexeme],
+) -> Result<(Levelled<Items<Case>>, &[Lexeme]), Stop>
+    ensures ok { IfOk result (λ r. cases (inside left) left tokens.now ≡ got r.0 r.1.now) }
+    ensures err { IfErr result (λ e. IsStop e (cases (inside left) left tokens.now)) }
+{
+    let (_in, rest) = one(tokens, Sort::Only(Class::In))?;
+    let (first, rest) = case(alloc, left, rest)?;
+    let mut cases = flat(Items::new(alloc));
+    more(&mut cases, first)?;
+    let rest = more_cases(alloc, left, rest, &mut cases)?;
+    Ok((cases, rest))
+}
+
 /// `match` with its cases, and the tokens behind it.
 #[cycle(method)]
-#[tactic(auto, using(iv_facts::proofs::Steps::stopped, iv_facts::proofs::Steps::went_on), unfolding(crate::specs::Methods::match_, crate::specs::Methods::cases, iv_facts::specs::Found::then_))]
+#[tactic(auto, using(iv_facts::proofs::Steps::stopped, iv_facts::proofs::Steps::went_on), unfolding(crate::specs::Methods::match_, iv_facts::specs::Found::then_))]
 fn match_(
     alloc: Global,
     left: u32,
@@ -491,11 +665,7 @@ fn match_(
 {
     let (_match, rest) = one(tokens, Sort::Only(Class::Match))?;
     let (subject, rest) = subject(alloc, rest)?;
-    let (_in, rest) = one(rest, Sort::Only(Class::In))?;
-    let (first, rest) = case(alloc, left, rest)?;
-    let mut cases = flat(Items::new(alloc));
-    more(&mut cases, first)?;
-    let rest = more_cases(alloc, left, rest, &mut cases)?;
+    let (cases, rest) = cases(alloc, left, rest)?;
     let found = Levelled {
         value: MethodText::Match(subject.value, cases.value),
         levels: subject.levels.max(cases.levels),
@@ -546,9 +716,26 @@ fn operand(
     }
 }
 
+/// A method joined to the next one, where so many levels are left, and the tokens behind that.
+#[cycle(method)]
+#[tactic(auto, using(iv_facts::proofs::Steps::stopped, iv_facts::proofs::Steps::went_on), unfolding(iv_facts::specs::Found::then_))]
+fn with_next(
+    alloc: Global,
+    left: u32,
+    join: Join,
+    first: Levelled<MethodText>,
+    tokens: &[Lexeme],
+) -> Result<(Levelled<MethodText>, &[Lexeme]), Stop>
+    ensures ok { IfOk result (λ r. then_ (operand (inside left) left join tokens.now) (λ n us. raised left (both (joined join) first n) us) ≡ got r.0 r.1.now) }
+    ensures err { IfErr result (λ e. IsStop e (then_ (operand (inside left) left join tokens.now) (λ n us. raised left (both (joined join) first n) us))) }
+{
+    let (next, rest) = operand(alloc, left, join, tokens)?;
+    link(alloc, left, join, first, next, rest)
+}
+
 /// Methods with tokens between them that join them, and the tokens behind them.
 #[cycle(method)]
-#[tactic(auto, using(iv_facts::proofs::Steps::stopped, iv_facts::proofs::Steps::went_on, crate::proofs::Joins::joins_stop, crate::proofs::Joins::joins_end, crate::proofs::Joins::joins_stopped, crate::proofs::Joins::joins_refused), unfolding(crate::specs::Methods::linked))]
+#[tactic(auto, using(iv_facts::proofs::Steps::stopped, iv_facts::proofs::Steps::went_on, crate::proofs::Joins::joins_stop, crate::proofs::Joins::joins_end), unfolding(crate::specs::Methods::linked))]
 fn linked(
     alloc: Global,
     left: u32,
@@ -564,8 +751,7 @@ fn linked(
         if !begins(rest, Sort::Only(between(join))) {
             break;
         }
-        let (next, after) = operand(alloc, left, join, behind(rest))?;
-        let (both, after) = link(alloc, left, join, found, next, after)?;
+        let (both, after) = with_next(alloc, left, join, found, behind(rest))?;
         found = both;
         rest = after;
     }
@@ -589,18 +775,26 @@ fn inside(
     linked(alloc, left - 1, Join::Or, tokens)
 }
 
+/// A part where no fact in it is too deep; the tokens are those behind it. Generic, so that no drop of a method is written out.
+fn whole<T: Drop>(part: Levelled<T>, tokens: &[Lexeme]) -> Result<(T, &[Lexeme]), Stop>
+    ensures ok { IfOk result (λ r. unless_deep part.deep part.value tokens.now ≡ got r.0 r.1.now) }
+    ensures err { IfErr result (λ e. IsStop e (unless_deep part.deep part.value tokens.now)) }
+{
+    match part.deep {
+        None => Ok((part.value, tokens)),
+        Some(place) => Err(Stop::Deep(place)),
+    }
+}
+
 /// A method, and the tokens behind it. Fails with `Deep` where it has more than 400 levels, at its first token, or a fact in it
 /// has, at that fact's; with `Syntax` where no method goes on, and with `Memory` where memory runs out.
-#[tactic(auto, using(crate::proofs::Joins::settled_got, crate::proofs::Joins::settled_noted, crate::proofs::Joins::settled_stopped), unfolding(crate::specs::Methods::a_method, iv_facts::specs::FactLevels::limit))]
+#[tactic(auto, using(crate::proofs::Joins::settled_got, crate::proofs::Joins::settled_stopped), unfolding(crate::specs::Methods::a_method, iv_facts::specs::FactLevels::limit))]
 pub fn a_method(alloc: Global, tokens: &[Lexeme]) -> Result<(MethodText, &[Lexeme]), Stop>
     ensures ok { IfOk result (λ r. a_method tokens.now ≡ got r.0 r.1.now) }
     ensures err { IfErr result (λ e. IsStop e (a_method tokens.now)) }
 {
     match method(alloc, LIMIT, tokens) {
-        Ok((method, rest)) => match method.deep {
-            None => Ok((method.value, rest)),
-            Some(place) => Err(Stop::Deep(place)),
-        },
+        Ok((method, rest)) => whole(method, rest),
         Err(stop) => Err(stop_at(stop, tokens)),
     }
 }

@@ -8,28 +8,26 @@ ghost use Rattle.iv_text.specs.Name.{same_name};
 ghost use Rattle.iv_text.specs.declared.want.Want.TheVariants.{Memory};
 ghost use Rattle.iv_rules.specs.Entries.{same_var, fixed_at, schematic_at, term_at};
 
+use iv_list::Items;
 use iv_term::{Term, Typ};
 use iv_text::{Mem, Name, Text};
 use std::alloc::Global;
 use std::marker::Model;
 
 /// Types for fixed type variables. Contracts see the list of its entries; no two have one key.
-#[derive(Drop)]
 pub struct FixedTypes {
-    entries: Vec<(Text, Typ)>,
+    entries: Items<(Text, Typ)>,
 }
 
 /// Types for schematic type variables. Contracts see the list of its entries; no two have one key.
-#[derive(Drop)]
 pub struct SchematicTypes {
-    entries: Vec<(Name, Typ)>,
+    entries: Items<(Name, Typ)>,
 }
 
 /// Terms for variables of one kind, each of which is a name and a type. Contracts see the list of its entries; no two
 /// have one key.
-#[derive(Drop)]
 pub struct VarTerms {
-    entries: Vec<((Name, Typ), Term)>,
+    entries: Items<((Name, Typ), Term)>,
 }
 
 /// Terms for free variables.
@@ -40,7 +38,6 @@ pub type SchematicTerms = VarTerms;
 
 /// What is put for the variables of a theorem: types first, and then terms, keyed by name and by the type after that,
 /// all at once.
-#[derive(Drop)]
 pub struct Instance {
     /// Types for fixed type variables.
     pub fixed: FixedTypes,
@@ -50,6 +47,36 @@ pub struct Instance {
     pub frees: FreeTerms,
     /// Terms for schematic variables.
     pub schematics: SchematicTerms,
+}
+
+// By hand, here and below, so that a caller's proof has one call where a list of entries or an instance ends.
+impl Drop for FixedTypes {
+    fn drop(self) {
+        let FixedTypes { entries: _entries } = self;
+    }
+}
+
+impl Drop for SchematicTypes {
+    fn drop(self) {
+        let SchematicTypes { entries: _entries } = self;
+    }
+}
+
+impl Drop for VarTerms {
+    fn drop(self) {
+        let VarTerms { entries: _entries } = self;
+    }
+}
+
+impl Drop for Instance {
+    fn drop(self) {
+        let Instance {
+            fixed: _fixed,
+            types: _types,
+            frees: _frees,
+            schematics: _schematics,
+        } = self;
+    }
 }
 
 impl Model for FixedTypes {
@@ -64,9 +91,9 @@ impl Model for FixedTypes {
 
     ghost coded = { coded_list (coded× (coded_list coded_ℕ) a_typ.the_row.coded) };
 
-    ghost view = { λ s. s.entries.items };
+    ghost view = { λ s. s.entries };
 
-    ghost invariant = { λ s. IsDistinct bytes_eq (keys_of s.entries.items) };
+    ghost invariant = { λ s. IsDistinct bytes_eq (keys_of s.entries) };
 }
 
 impl Model for SchematicTypes {
@@ -82,9 +109,9 @@ impl Model for SchematicTypes {
 
     ghost coded = { coded_list (coded× a_name.the_row.coded a_typ.the_row.coded) };
 
-    ghost view = { λ s. s.entries.items };
+    ghost view = { λ s. s.entries };
 
-    ghost invariant = { λ s. IsDistinct same_name (keys_of s.entries.items) };
+    ghost invariant = { λ s. IsDistinct same_name (keys_of s.entries) };
 }
 
 impl Model for VarTerms {
@@ -100,9 +127,9 @@ impl Model for VarTerms {
 
     ghost coded = { coded_list (coded× (coded× a_name.the_row.coded a_typ.the_row.coded) a_term.the_row.coded) };
 
-    ghost view = { λ s. s.entries.items };
+    ghost view = { λ s. s.entries };
 
-    ghost invariant = { λ s. IsDistinct same_var (keys_of s.entries.items) };
+    ghost invariant = { λ s. IsDistinct same_var (keys_of s.entries) };
 }
 
 impl FixedTypes {
@@ -111,7 +138,7 @@ impl FixedTypes {
         ensures { result ≡ [] }
     {
         FixedTypes {
-            entries: Vec::new(alloc),
+            entries: Items::new(alloc),
         }
     }
 
@@ -128,7 +155,7 @@ impl FixedTypes {
         requires { index < length self.now }
         ensures { slice_get self.now index ≡ Some (result.0.now, result.1.now) }
     {
-        let entry = &self.entries[index];
+        let entry = &self.entries.as_slice()[index];
         (&entry.0, &entry.1)
     }
 
@@ -160,12 +187,8 @@ impl FixedTypes {
         ensures ok { IfOk result (λ s. s ≡ self.now) }
         ensures memory { IfErr result (λ w. w ≡ Memory) }
     {
-        let mut copy = FixedTypes::new(alloc);
-        for i in 0..self.len() {
-            let (name, typ) = self.entry(i);
-            copy.push(name.copy()?, typ.copy()?)?;
-        }
-        Ok(copy)
+        let entries = self.entries.copy(alloc)?;
+        Ok(FixedTypes { entries })
     }
 }
 
@@ -175,7 +198,7 @@ impl SchematicTypes {
         ensures { result ≡ [] }
     {
         SchematicTypes {
-            entries: Vec::new(alloc),
+            entries: Items::new(alloc),
         }
     }
 
@@ -192,7 +215,7 @@ impl SchematicTypes {
         requires { index < length self.now }
         ensures { slice_get self.now index ≡ Some (result.0.now, result.1.now) }
     {
-        let entry = &self.entries[index];
+        let entry = &self.entries.as_slice()[index];
         (&entry.0, &entry.1)
     }
 
@@ -224,12 +247,8 @@ impl SchematicTypes {
         ensures ok { IfOk result (λ s. s ≡ self.now) }
         ensures memory { IfErr result (λ w. w ≡ Memory) }
     {
-        let mut copy = SchematicTypes::new(alloc);
-        for i in 0..self.len() {
-            let (name, typ) = self.entry(i);
-            copy.push(name.copy()?, typ.copy()?)?;
-        }
-        Ok(copy)
+        let entries = self.entries.copy(alloc)?;
+        Ok(SchematicTypes { entries })
     }
 }
 
@@ -239,7 +258,7 @@ impl VarTerms {
         ensures { result ≡ [] }
     {
         VarTerms {
-            entries: Vec::new(alloc),
+            entries: Items::new(alloc),
         }
     }
 
@@ -256,7 +275,7 @@ impl VarTerms {
         requires { index < length self.now }
         ensures { slice_get self.now index ≡ Some ((result.0.now, result.1.now), result.2.now) }
     {
-        let entry = &self.entries[index];
+        let entry = &self.entries.as_slice()[index];
         (&entry.0.0, &entry.0.1, &entry.1)
     }
 
@@ -288,13 +307,8 @@ impl VarTerms {
         ensures ok { IfOk result (λ s. s ≡ self.now) }
         ensures memory { IfErr result (λ w. w ≡ Memory) }
     {
-        let mut copy = VarTerms::new(alloc);
-        for i in 0..self.len() {
-            let (name, typ, value) = self.entry(i);
-            let value = value.copy()?;
-            copy.push(name.copy()?, typ.copy()?, value)?;
-        }
-        Ok(copy)
+        let entries = self.entries.copy(alloc)?;
+        Ok(VarTerms { entries })
     }
 }
 

@@ -6,21 +6,17 @@ use Rattle.iv_term.specs.declared.term.Term.TheBlock.{Nil}
 use Rattle.iv_term.specs.Term.{imp, consequent}
 use Rattle.iv_term.specs.Hyps.{union}
 use Rattle.iv_hsub.specs.Hhf.{hhf}
-use Rattle.iv_hsub.specs.Made.{IsPast, made_hhf}
 use Rattle.iv_rules.specs.declared.derivation.Derivation.{Derivation}
 use Rattle.iv_rules.specs.declared.derivation.Derivation.TheBlock.{Assume}
 use Rattle.iv_rules.specs.Derivation.{imp_intr, imp_elim, conv}
 use Rattle.iv_rules.specs.Rules.{axioms_of}
 use Rattle.iv_kernel.specs.Goal.{goal_prop, premises_of, IsGoal}
 use Rattle.iv_run.specs.Statement.{statement_of, free_var}
-use Rattle.iv_run.proofs.Forms.{hhf-statement, made-statement}
+use Rattle.iv_run.proofs.Forms.{hhf-statement}
 
 -- the claim of a statement is in its form already
 pub statement-form : (t : Term) (ps : List (List ℕ)) (c : List ℕ) → t ≡ statement_of free_var (ps ++ c ∷ []) → hhf t ≡ t
 statement-form t ps c e = rw e (hhf-statement ps c)
-
-pub statement-past : (t : Term) (ps : List (List ℕ)) (c : List ℕ) → t ≡ statement_of free_var (ps ++ c ∷ []) → IsPast (made_hhf t) → ⊥
-statement-past t ps c e h = subst IsPast (ap made_hhf e ∙ made-statement ps c) h
 
 -- the theorem of a goal with its claim as the only subgoal
 only-subgoal : (g claim : Term) (ss : List Term) → g ≡ goal_prop ss claim → ss ≡ claim ∷ [] → g ≡ imp claim claim

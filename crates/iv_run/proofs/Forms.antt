@@ -5,7 +5,6 @@ use Rattle.iv_term.specs.Typ.{same_typ, same_typs}
 use Rattle.iv_term.specs.Term.{imp}
 use Rattle.iv_hsub.specs.Typing.{type_of, result_type}
 use Rattle.iv_hsub.specs.Hhf.{hhf, hhf_all, push, push_args}
-use Rattle.iv_hsub.specs.Made.{made_hhf, made_hhf_all, made_push, made_push_args}
 use Rattle.iv_rules.specs.Sequent.{IsProp}
 use Rattle.iv_rules.specs.Laws.{ImpIsProp}
 use Rattle.iv_run.specs.Statement.{free_var, statement_of}
@@ -49,34 +48,3 @@ hhf-statement [] c = hhf-var c
 hhf-statement (p ∷ ps) c =
     rw (statement-cons free_var p c ps)
     (hhf-imp (free_var p) (statement_of free_var (ps ++ c ∷ [])) ∙ (λ i. push (hhf-var p i) (hhf-statement ps c i)) ∙ pushed (free_var p) ps c)
-
--- and no number is made on the way
-made-var : (p : List ℕ) → made_hhf (free_var p) ≡ []
-unfolding made_hhf made_hhf_all
-made-var p = refl
-
-made-imp : (a b : Term) → made_hhf (imp a b) ≡ (made_hhf a ++ (made_hhf b ++ [])) ++ made_push (hhf a) (hhf b)
-unfolding made_hhf made_hhf_all hhf_all same_typ same_typs
-made-imp a b = refl
-
-unmade-var : (a : Term) (p : List ℕ) → made_push a (free_var p) ≡ []
-unfolding made_push made_push_args
-unmade-var a p = refl
-
-unmade-imp : (a b d : Term) → made_push a (imp b d) ≡ []
-unfolding made_push made_push_args same_typ same_typs
-unmade-imp a b d = refl
-
-unmade : (a : Term) (ps : List (List ℕ)) (c : List ℕ) → made_push a (statement_of free_var (ps ++ c ∷ [])) ≡ []
-unfolding statement_of
-unmade a [] c = unmade-var a c
-unmade a (p ∷ ps) c = rw (statement-cons free_var p c ps) (unmade-imp a (free_var p) (statement_of free_var (ps ++ c ∷ [])))
-
-pub made-statement : (ps : List (List ℕ)) (c : List ℕ) → made_hhf (statement_of free_var (ps ++ c ∷ [])) ≡ []
-unfolding statement_of
-made-statement [] c = made-var c
-made-statement (p ∷ ps) c =
-    let s : Term = statement_of free_var (ps ++ c ∷ []) in
-    rw (statement-cons free_var p c ps)
-    (made-imp (free_var p) s ∙ (λ i. (made-var p i ++ (made-statement ps c i ++ [])) ++ made_push (hhf (free_var p)) (hhf-statement ps c i))
-    ∙ unmade (hhf (free_var p)) ps c)

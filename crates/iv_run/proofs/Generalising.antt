@@ -11,14 +11,12 @@ use Rattle.iv_text.specs.Name.{same_name}
 use Rattle.iv_term.specs.Term.{imp}
 use Rattle.iv_term.specs.Hyps.{union}
 use Rattle.iv_hsub.specs.Hsub.{happ}
-use Rattle.iv_hsub.specs.Made.{IsPast, made_happ, made_use, made_inst, made_inst_all}
 use Rattle.iv_hsub.specs.Retype.{map_typ, map_typs, retype, retype_all}
 use Rattle.iv_hsub.specs.Inst.{use_value, inst, inst_all}
 use Rattle.iv_rules.specs.declared.instance.Instance.{Instance}
 use Rattle.iv_rules.specs.Entries.{VarMap, same_var}
 use Rattle.iv_rules.specs.Instance.{instanced, instanced_hyps, AreKeysApart, IsFreshFor, changes_any}
 use Rattle.iv_rules.specs.Conditions.{CanInst}
-use Rattle.iv_conclusions.specs.Made.{made_instanced, made_instanced_all}
 use Rattle.iv_run.specs.Statement.{name_of, free_var, schematic_var, statement_of, with_entry, with_entries, general}
 use Rattle.iv_run.proofs.StatementSteps.{statement-cons, drop-earlier}
 use Rattle.iv_run.proofs.Entries.{Covers, CoversAll, entries_for, premises-covered, conclusion-covered, entries-typed, typed-none, entries-apart, none-apart}
@@ -47,37 +45,6 @@ instanced-statement ps c = instanced-covered (entries_for ps c) ps c (premises-c
 pub instanced-nothing : (s : Instance) → instanced_hyps s Nil ≡ Nil
 unfolding union retype_all inst_all
 instanced-nothing s = refl
-
--- and no number is made on the way
-made-var : (es : VarMap) (p : List ℕ) → Covers es p → made_instanced (general es) (free_var p) ≡ []
-unfolding map_typ map_typs retype retype_all made_inst made_inst_all inst_all made_happ
-made-var es p k = ap (λ o. made_use o prop Nil) k
-
-made-imp : (s : Instance) (a b : Term) → made_instanced s (imp a b) ≡ (made_instanced s a ++ (made_instanced s b ++ [])) ++ []
-unfolding map_typ map_typs retype retype_all made_inst made_inst_all inst_all
-made-imp s a b = refl
-
-made-covered : (es : VarMap) (ps : List (List ℕ)) (c : List ℕ) → CoversAll es ps → Covers es c
-    → made_instanced (general es) (statement_of free_var (ps ++ c ∷ [])) ≡ []
-unfolding statement_of
-made-covered es [] c h k = made-var es c k
-made-covered es (p ∷ ps) c h k =
-    ap (made_instanced (general es)) (statement-cons free_var p c ps) ∙ made-imp (general es) (free_var p) (statement_of free_var (ps ++ c ∷ []))
-    ∙ (λ i. (made-var es p h.0 i ++ (made-covered es ps c h.1 k i ++ [])) ++ [])
-
-made-statement : (ps : List (List ℕ)) (c : List ℕ) → made_instanced (general (entries_for ps c)) (statement_of free_var (ps ++ c ∷ [])) ≡ []
-made-statement ps c = made-covered (entries_for ps c) ps c (premises-covered ps c) (conclusion-covered ps c)
-
-made-nothing : (s : Instance) → made_instanced_all s Nil ≡ []
-unfolding retype_all made_inst_all
-made-nothing s = refl
-
-pub none-past : (s : Instance) (hs : Terms) (t : Term) (ps : List (List ℕ)) (c : List ℕ) → s ≡ general (entries_for ps c) → hs ≡ Nil
-    → t ≡ statement_of free_var (ps ++ c ∷ []) → IsPast (made_instanced_all s hs ++ made_instanced s t) → ⊥
-none-past s hs t ps c e f g h =
-    let n : made_instanced_all s hs ++ made_instanced s t ≡ [] =
-    rw (e, f, g) (ap (λ ns. ns ++ made_instanced (general (entries_for ps c)) (statement_of free_var (ps ++ c ∷ []))) (made-nothing (general (entries_for ps c))) ∙ made-statement ps c) in
-    subst IsPast n h
 
 -- the entries for a statement may be put in where there are no hypotheses
 fresh-nowhere : (s : Instance) → IsFreshFor s Nil

@@ -36,7 +36,9 @@ fn goal_of(alloc: Global, parts: &Parts) -> Mem<Goal>
     parts_of_propositions();
     let (premises, conclusion) = parts.split();
     let claim = statement::statement(alloc, premises, conclusion)?;
-    Goal::init(alloc, &claim)
+    let goal = Goal::init(alloc, &claim);
+    drop(claim);
+    goal
 }
 
 impl Claim {
@@ -68,7 +70,9 @@ impl Claim {
     {
         let (premises, conclusion) = self.parts.split();
         let solved = from_conclusion(alloc, premises, conclusion)?;
-        let thm = Thm::imp_elim(alloc, self.goal.thm(), &solved)?;
+        let thm = Thm::imp_elim(alloc, self.goal.thm(), &solved);
+        drop(solved);
+        let thm = thm?;
         let goal = Goal::made(thm, 0, self.goal.claim())?;
         Ok(goal.finish())
     }
@@ -87,7 +91,9 @@ impl Claim {
             return Ok(None);
         }
         let thm = self.discharged(alloc)?;
-        let proved = generalised(alloc, &thm, premises, conclusion)?;
+        let proved = generalised(alloc, &thm, premises, conclusion);
+        drop(thm);
+        let proved = proved?;
         let _kept = proved.derivation();
         Ok(Some(proved))
     }

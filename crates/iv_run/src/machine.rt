@@ -1,5 +1,6 @@
 ghost use Rattle.std.specs.Prelude.{◌≡◌, ◌≢◌, [], ◌∷◌, ◌++◌, map, Some, option_copied, OnOk, OnErr, IfErr};
 ghost use Rattle.std.specs.Str.{bytes_eq};
+ghost use Rattle.iv_text.specs.declared.want.Want.TheVariants.{Memory};
 ghost use Rattle.iv_run.specs.Machine.{start, Theory, executed, is_pure, other_import, header_row, header_at, prose_at, lemma_row, lemma_at, by_at, oops_at, end_at, theorem_of, Accepted, Refused};
 ghost use Rattle.iv_run.specs.Run.{is_ended};
 ghost use Rattle.iv_run.specs.Closed.{IsClosed};
@@ -12,8 +13,9 @@ use iv_forms::Items;
 use iv_kernel::{NamedThm, Theorems, Thm};
 use iv_statement::Parts;
 use iv_statement::commands::{Command, Form};
-use iv_text::Text;
+use iv_text::{Mem, Text};
 use std::alloc::Global;
+use std::mem::replace;
 
 /// Where the document stands.
 #[derive(Drop)]
@@ -45,6 +47,24 @@ fn other_import(imports: &[Text]) -> Option<&Text>
         }
     }
     None
+}
+
+/// Puts a theorem under its name behind the others. Fails where memory runs out, and they are then as before.
+fn push_named(theorems: &mut Theorems, label: &Text, thm: Thm) -> Mem<()>
+    ensures ok { OnOk result (theorems.new ≡ theorems.old ++ record { name = Some label.now; thm = thm } ∷ []) }
+    ensures err { OnErr result (theorems.new ≡ theorems.old) }
+    ensures memory { IfErr result (λ w. w ≡ Memory) }
+{
+    match label.copy() {
+        Ok(name) => theorems.push(NamedThm {
+            name: Some(name),
+            thm,
+        }),
+        Err(want) => {
+            drop(thm);
+            Err(want)
+        }
+    }
 }
 
 /// The machine that executes the commands of a document.
@@ -93,7 +113,14 @@ impl Vm {
     pub fn into_theorems(self) -> Theorems
         ensures { result ≡ self.theorems }
     {
-        let Vm { theorems, .. } = self;
+        let Vm {
+            theorems,
+            phase,
+            names,
+            ..
+        } = self;
+        drop(phase);
+        drop(names);
         theorems
     }
 
@@ -123,7 +150,7 @@ impl Vm {
         ensures state { machine_of self.new ≡ record { stage = stage_of phase; finished = map seen self.old.theorems } }
         ensures sound { IsSound self.new }
     {
-        self.phase = phase;
+        drop(replace(&mut self.phase, phase));
     }
 
     /// Begins the theory.
@@ -235,13 +262,11 @@ impl Vm {
         ensures keeps { OnErr result (machine_of self.new ≡ machine_of self.old) }
         ensures sound { IsSound self.new }
     {
-        let name = label.copy()?;
-        self.theorems.push(NamedThm {
-            name: Some(label),
-            thm,
-        })?;
-        if let Err(want) = self.names.add(self.alloc, &name) {
-            let _last = self.theorems.pop();
+        push_named(&mut self.theorems, &label, thm)?;
+        let added = self.names.add(self.alloc, &label);
+        drop(label);
+        if let Err(want) = added {
+            drop(self.theorems.pop());
             return Err(Refusal::from(want));
         }
         self.enter(Phase::Theory);

@@ -1,4 +1,4 @@
-ghost use Rattle.std.specs.Prelude.{◌≡◌, [], ◌∷◌, ◌++◌, IfOk, IfErr};
+ghost use Rattle.std.specs.Prelude.{◌≡◌, [], ◌∷◌, ◌++◌, IfOk, IfErr, OnOk};
 ghost use Rattle.iv_text.specs.declared.want.Want.TheVariants.{Memory};
 ghost use Rattle.iv_term.specs.declared.term.Term.TheBlock.{Nil};
 ghost use Rattle.iv_term.specs.Hyps.{without};
@@ -21,7 +21,9 @@ fn assumed(alloc: Global, text: &Text) -> Mem<Thm>
     ensures memory { IfErr result (λ w. w ≡ Memory) }
 {
     let variable = free_var(alloc, text)?;
-    Thm::assume(alloc, &variable)
+    let thm = Thm::assume(alloc, &variable);
+    drop(variable);
+    thm
 }
 
 /// A theorem with a variable as one premise more, which is no hypothesis any more. Fails where memory runs out.
@@ -32,7 +34,9 @@ fn discharged(alloc: Global, text: &Text, thm: &Thm) -> Mem<Thm>
     ensures memory { IfErr result (λ w. w ≡ Memory) }
 {
     let variable = free_var(alloc, text)?;
-    Thm::imp_intr(alloc, &variable, thm)
+    let more = Thm::imp_intr(alloc, &variable, thm);
+    drop(variable);
+    more
 }
 
 /// The theorem that a statement follows from its conclusion, which is no hypothesis any more where it is a
@@ -47,25 +51,37 @@ pub fn from_conclusion(alloc: Global, premises: &[Text], conclusion: &Text) -> M
     let mut at = premises.len();
     'premises: while at > 0 {
         at -= 1;
-        thm = discharged(alloc, &premises[at], &thm)?;
+        let more = discharged(alloc, &premises[at], &thm);
+        drop(thm);
+        thm = more?;
     }
     Ok(thm)
 }
 
-/// The entries with one that puts the schematic variable of a text for its free one, where there is none
-/// yet. Fails where memory runs out.
-fn with_entry(alloc: Global, text: &Text, mut entries: VarTerms) -> Mem<VarTerms>
-    ensures ok { IfOk result (λ s. s ≡ with_entry text.now entries) }
+/// Enters that the schematic variable of a text is put for its free one, where nothing is yet. Fails where memory
+/// runs out.
+fn push_entry(alloc: Global, text: &Text, entries: &mut VarTerms) -> Mem<()>
+    ensures ok { OnOk result (entries.new ≡ with_entry text.now entries.old) }
     ensures memory { IfErr result (λ w. w ≡ Memory) }
 {
     let name = name_of(text)?;
     let prop = Typ::prop(alloc)?;
     if entries.get(&name, &prop).is_some() {
-        return Ok(entries);
+        drop(name);
+        drop(prop);
+        return Ok(());
     }
-    let value = schematic_var(alloc, text)?;
-    entries.push(name, prop, value)?;
-    Ok(entries)
+    match schematic_var(alloc, text) {
+        Ok(value) => {
+            entries.push(name, prop, value)?;
+            Ok(())
+        }
+        Err(want) => {
+            drop(name);
+            drop(prop);
+            Err(want)
+        }
+    }
 }
 
 /// Entries that put the schematic variables of some texts for their free ones. Fails where memory runs out.
@@ -73,9 +89,10 @@ fn schematic_entries(alloc: Global, premises: &[Text], conclusion: &Text) -> Mem
     ensures ok { IfOk result (λ s. s ≡ with_entries premises.now (with_entry conclusion.now [])) }
     ensures memory { IfErr result (λ w. w ≡ Memory) }
 {
-    let mut entries = with_entry(alloc, conclusion, VarTerms::new(alloc))?;
+    let mut entries = VarTerms::new(alloc);
+    push_entry(alloc, conclusion, &mut entries)?;
     for premise in premises {
-        entries = with_entry(alloc, premise, entries)?;
+        push_entry(alloc, premise, &mut entries)?;
     }
     Ok(entries)
 }

@@ -150,6 +150,27 @@ fn push_cause(out: &mut Vec<char>, line: u32, column: u32, refusal: &Refusal) ->
     }
 }
 
+/// Writes that a command was refused: the line and column of its first token, its word, and why, with those of the
+/// refusal. Fails where memory runs out.
+fn push_refusal(
+    out: &mut Vec<char>,
+    at: (u32, u32),
+    word: &Text,
+    own: (u32, u32),
+    refusal: &Refusal,
+) -> Mem<()>
+    ensures ok { OnOk result (out.new.items ≡ out.old.items ++ refusal_line at.0 at.1 word.now own.0 own.1 refusal.now) }
+    ensures memory { IfErr result (λ w. w ≡ Memory) }
+{
+    push_ascii(out, b"refused ")?;
+    push_place(out, at.0, at.1)?;
+    push_char(out, ' ')?;
+    push_text(out, word)?;
+    push_char(out, ' ')?;
+    push_cause(out, own.0, own.1, refusal)?;
+    push_char(out, '\n')
+}
+
 /// The line that reports that a command was refused, with a line feed at its end: the 1-based line and
 /// column of its first token, its word, and why, with those of the refusal. Fails where memory runs out.
 pub fn refusal_line(
@@ -163,13 +184,7 @@ pub fn refusal_line(
     ensures memory { IfErr result (λ w. w ≡ Memory) }
 {
     let mut out = Vec::new(alloc);
-    push_ascii(&mut out, b"refused ")?;
-    push_place(&mut out, at.0, at.1)?;
-    push_char(&mut out, ' ')?;
-    push_text(&mut out, word)?;
-    push_char(&mut out, ' ')?;
-    push_cause(&mut out, own.0, own.1, refusal)?;
-    push_char(&mut out, '\n')?;
+    push_refusal(&mut out, at, word, own, refusal)?;
     Text::from_vec(alloc, out)
 }
 
@@ -180,6 +195,20 @@ fn end_text(ended: bool) -> &'static [u8]
     if ended { b"ended" } else { b"open" }
 }
 
+/// Writes how many theorems and refusals there are, and whether the document has ended. Fails where memory runs out.
+fn push_counts(line: &mut Vec<char>, theorems: u64, refusals: u64, ended: bool) -> Mem<()>
+    ensures ok { OnOk result (line.new.items ≡ line.old.items ++ count_line theorems refusals ended) }
+    ensures memory { IfErr result (λ w. w ≡ Memory) }
+{
+    push_ascii(line, b"theorems ")?;
+    push_decimal(line, theorems)?;
+    push_ascii(line, b" refusals ")?;
+    push_decimal(line, refusals)?;
+    push_char(line, ' ')?;
+    push_ascii(line, end_text(ended))?;
+    push_char(line, '\n')
+}
+
 /// The line that counts theorems and refusals, and says whether the document has ended, with a line feed at its
 /// end. Fails where memory runs out.
 pub fn count_line(alloc: Global, theorems: u64, refusals: u64, ended: bool) -> Mem<Text>
@@ -187,12 +216,6 @@ pub fn count_line(alloc: Global, theorems: u64, refusals: u64, ended: bool) -> M
     ensures memory { IfErr result (λ w. w ≡ Memory) }
 {
     let mut line = Vec::new(alloc);
-    push_ascii(&mut line, b"theorems ")?;
-    push_decimal(&mut line, theorems)?;
-    push_ascii(&mut line, b" refusals ")?;
-    push_decimal(&mut line, refusals)?;
-    push_char(&mut line, ' ')?;
-    push_ascii(&mut line, end_text(ended))?;
-    push_char(&mut line, '\n')?;
+    push_counts(&mut line, theorems, refusals, ended)?;
     Text::from_vec(alloc, line)
 }

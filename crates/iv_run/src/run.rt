@@ -68,6 +68,19 @@ impl From<Failed> for Stop {
     }
 }
 
+/// Puts the line of a finished theorem behind the others, as bytes. Fails where memory runs out.
+fn push_theorem(alloc: Global, bytes: &mut Vec<u8>, one: &NamedThm) -> Mem<()>
+    ensures ok { OnOk result (bytes.new.items ≡ bytes.old.items ++ encode_utf8_all (line_of_finished (seen one.now))) }
+    ensures memory { IfErr result (λ w. w ≡ Memory) }
+{
+    let line = theorem_line(alloc, one.name.as_ref(), one.thm.prop())?;
+    let utf8 = line.to_utf8(alloc);
+    drop(line);
+    let utf8 = utf8?;
+    bytes.extend_from_slice(utf8.as_slice())?;
+    Ok(())
+}
+
 /// The lines of some finished theorems, as bytes. Fails where memory runs out.
 pub fn theorem_bytes(alloc: Global, named: &[NamedThm]) -> Mem<Vec<u8>>
     ensures ok { IfOk result (λ v. v.items ≡ encode_utf8_all (flat_map line_of_finished (map seen named.now))) }
@@ -75,9 +88,7 @@ pub fn theorem_bytes(alloc: Global, named: &[NamedThm]) -> Mem<Vec<u8>>
 {
     let mut bytes = Vec::new(alloc);
     for one in named {
-        let line = theorem_line(alloc, one.name.as_ref(), one.thm.prop())?;
-        let line = line.to_utf8(alloc)?;
-        bytes.extend_from_slice(line.as_slice())?;
+        push_theorem(alloc, &mut bytes, one)?;
     }
     Ok(bytes)
 }
@@ -142,10 +153,11 @@ pub fn step(
         }
         Err(Refusal::Memory) => Err(Want::Memory),
         Err(refusal) => {
-            let bytes = refusal_bytes(alloc, document, command, &refusal, cursor)?;
+            let bytes = refusal_bytes(alloc, document, command, &refusal, cursor);
+            drop(refusal);
             Ok(Reported {
                 accepted: false,
-                bytes,
+                bytes: bytes?,
             })
         }
     }
@@ -198,7 +210,9 @@ pub fn execute<K: Sink>(
     for command in commands {
         let reported = step(alloc, document, command, vm, &mut cursor)?;
         accepted = both(accepted, reported.accepted);
-        write_all(sink, reported.bytes.as_slice())?;
+        let written = write_all(sink, reported.bytes.as_slice());
+        drop(reported);
+        written?;
     }
     Ok(accepted)
 }
@@ -277,7 +291,9 @@ pub fn tally<K: Sink>(
 {
     let refused = count_refused(commands, vm)?;
     let bytes = count_bytes(alloc, vm, refused)?;
-    write_all(sink, bytes.as_slice())?;
+    let written = write_all(sink, bytes.as_slice());
+    drop(bytes);
+    written?;
     Ok(refused == 0)
 }
 

@@ -2,6 +2,7 @@ ghost use Rattle.std.specs.Prelude.{◌≡◌, ◌<◌, [], ◌∷◌, ◌++◌,
 ghost use Rattle.std.specs.List.{list_any};
 ghost use Rattle.std.specs.Str.{bytes_eq};
 ghost use Rattle.iv_text.specs.declared.want.Want.TheVariants.{Memory};
+ghost use Rattle.iv_term.specs.Term.{imp};
 ghost use Rattle.iv_run.specs.Statement.{name_of, free_var, schematic_var, statement_of, is_solved};
 
 use iv_term::{Head, Term, Terms, Typ};
@@ -37,6 +38,17 @@ pub fn schematic_var(alloc: Global, text: &Text) -> Mem<Term>
     Ok(Term::Spine(head, Terms::Nil))
 }
 
+/// A proposition with a free variable as one premise more. Fails where memory runs out.
+fn with_premise(alloc: Global, premise: &Text, rest: &Term) -> Mem<Term>
+    ensures ok { IfOk result (λ t. t ≡ imp (free_var premise.now) rest.now) }
+    ensures memory { IfErr result (λ w. w ≡ Memory) }
+{
+    let premise = free_var(alloc, premise)?;
+    let built = Term::imp(alloc, &premise, rest);
+    drop(premise);
+    built
+}
+
 /// The statement with these premises and this conclusion, over free variables. Fails where memory runs out.
 pub fn statement(alloc: Global, premises: &[Text], conclusion: &Text) -> Mem<Term>
     ensures ok { IfOk result (λ t. t ≡ statement_of free_var (premises.now ++ conclusion.now ∷ [])) }
@@ -46,8 +58,9 @@ pub fn statement(alloc: Global, premises: &[Text], conclusion: &Text) -> Mem<Ter
     let mut at = premises.len();
     'premises: while at > 0 {
         at -= 1;
-        let premise = free_var(alloc, &premises[at])?;
-        built = Term::imp(alloc, &premise, &built)?;
+        let more = with_premise(alloc, &premises[at], &built);
+        drop(built);
+        built = more?;
     }
     Ok(built)
 }

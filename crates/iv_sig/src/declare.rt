@@ -1,4 +1,5 @@
-//! Declarations. Where one is refused, the signature is as before; else it has one entry more, at its end.
+//! Declarations. Where one is refused, the signature is as before; else it has one entry more, at its end. A refused type or
+//! term is dropped by a call, as a drop that isn't written is proved piece by piece at each exit.
 ghost use Rattle.std.specs.Prelude.{◌≡◌, true, false, None, Some, IsSome, ◌↔◌, ◌⊎◌, IfErr, IsErrOf, OnOk, OnErr};
 ghost use Rattle.iv_sig.specs.Conditions.{IsJudgmentType, IsAxiom};
 ghost use Rattle.iv_sig.specs.Fixity.{symbol_of};
@@ -40,6 +41,7 @@ impl Sig {
         ensures other { IfErr result (λ e. (e ≡ Duplicate name) ⊎ (e ≡ Memory)) }
     {
         if self.is_there(&name) {
+            drop(typ);
             return Err(SigError::Duplicate(name));
         }
         self.consts.push(alloc, name, typ)?;
@@ -80,6 +82,20 @@ impl Sig {
         Ok(())
     }
 
+    /// Declares a constant as the judgment, where all that may be asked of it holds.
+    fn put_judgment(&mut self, alloc: Global, name: Text, typ: Typ) -> Result<(), SigError>
+        requires new { is_there self.old name ≡ false }
+        requires typed { IsJudgmentType typ }
+        ensures ok { OnOk result (self.new ≡ with_judgment self.old name typ) }
+        ensures same { OnErr result (self.new ≡ self.old) }
+        ensures memory { IfErr result (λ e. e ≡ Memory) }
+    {
+        let judgment = name.copy()?;
+        self.consts.push(alloc, name, typ)?;
+        self.judgment = Some(judgment);
+        Ok(())
+    }
+
     /// Declares a constant as the judgment. `SecondJudgment` exactly where there is one; else `Duplicate` exactly
     /// where the name is there; else `BadJudgment` exactly where the type isn't `T => prop` with a `T` without type
     /// variables; else only `Memory` may come.
@@ -92,17 +108,29 @@ impl Sig {
         ensures other { IfErr result (λ e. (e ≡ SecondJudgment) ⊎ ((e ≡ Duplicate name) ⊎ ((e ≡ BadJudgment) ⊎ (e ≡ Memory)))) }
     {
         if self.judgment.is_some() {
+            drop(typ);
             return Err(SigError::SecondJudgment);
         }
         if self.is_there(&name) {
+            drop(typ);
             return Err(SigError::Duplicate(name));
         }
         if !is_judgment_type(&typ) {
+            drop(typ);
             return Err(SigError::BadJudgment);
         }
-        let judgment = name.copy()?;
-        self.consts.push(alloc, name, typ)?;
-        self.judgment = Some(judgment);
+        self.put_judgment(alloc, name, typ)
+    }
+
+    /// Declares an axiom, where all that may be asked of it holds.
+    fn put_axiom(&mut self, alloc: Global, name: Text, prop: Term) -> Result<(), SigError>
+        requires new { look self.old.axioms name ≡ None }
+        requires closed { IsAxiom prop }
+        ensures ok { OnOk result (self.new ≡ with_axiom self.old name prop) }
+        ensures same { OnErr result (self.new ≡ self.old) }
+        ensures memory { IfErr result (λ e. e ≡ Memory) }
+    {
+        self.axioms.push(alloc, name, prop)?;
         Ok(())
     }
 
@@ -116,12 +144,13 @@ impl Sig {
         ensures other { IfErr result (λ e. (e ≡ Duplicate name) ⊎ ((e ≡ BadAxiom) ⊎ (e ≡ Memory))) }
     {
         if self.axioms.has(&name) {
+            drop(prop);
             return Err(SigError::Duplicate(name));
         }
         if !is_axiom(&prop) {
+            drop(prop);
             return Err(SigError::BadAxiom);
         }
-        self.axioms.push(alloc, name, prop)?;
-        Ok(())
+        self.put_axiom(alloc, name, prop)
     }
 }

@@ -5,7 +5,6 @@ ghost use Rattle.iv_sig.specs.Fixity.{symbol_of, are_priorities};
 use iv_text::{Copied, Mem, Text};
 
 /// How a constant is written: by a symbol, at a priority. The symbol is kept as it is printed.
-#[derive(Drop)]
 pub enum Fixity {
     /// The symbol in front of its arguments.
     Plain(Text),
@@ -19,6 +18,20 @@ pub enum Fixity {
     Infixr(Text, u32),
     /// The symbol in front of variables that it binds, a dot and a body.
     Binder(Text, u32),
+}
+
+// By hand, so that a caller's proof has one call where a notation ends.
+impl Drop for Fixity {
+    fn drop(self) {
+        match self {
+            Fixity::Plain(_symbol) => {}
+            Fixity::Prefix(_symbol, _place, _own) => {}
+            Fixity::Infix(_symbol, _own) => {}
+            Fixity::Infixl(_symbol, _own) => {}
+            Fixity::Infixr(_symbol, _own) => {}
+            Fixity::Binder(_symbol, _own) => {}
+        }
+    }
 }
 
 impl Fixity {
@@ -67,15 +80,14 @@ impl Fixity {
 
 impl Copied for Fixity {
     fn copied(&self) -> Mem<Fixity> {
-        match self {
-            Fixity::Plain(symbol) => Ok(Fixity::Plain(symbol.copy()?)),
-            Fixity::Prefix(symbol, place, own) => {
-                Ok(Fixity::Prefix(symbol.copy()?, *place, *own))
-            }
-            Fixity::Infix(symbol, own) => Ok(Fixity::Infix(symbol.copy()?, *own)),
-            Fixity::Infixl(symbol, own) => Ok(Fixity::Infixl(symbol.copy()?, *own)),
-            Fixity::Infixr(symbol, own) => Ok(Fixity::Infixr(symbol.copy()?, *own)),
-            Fixity::Binder(symbol, own) => Ok(Fixity::Binder(symbol.copy()?, *own)),
-        }
+        let symbol = self.symbol().copy()?;
+        Ok(match self {
+            Fixity::Plain(_symbol) => Fixity::Plain(symbol),
+            Fixity::Prefix(_symbol, place, own) => Fixity::Prefix(symbol, *place, *own),
+            Fixity::Infix(_symbol, own) => Fixity::Infix(symbol, *own),
+            Fixity::Infixl(_symbol, own) => Fixity::Infixl(symbol, *own),
+            Fixity::Infixr(_symbol, own) => Fixity::Infixr(symbol, *own),
+            Fixity::Binder(_symbol, own) => Fixity::Binder(symbol, *own),
+        })
     }
 }

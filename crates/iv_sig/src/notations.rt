@@ -48,6 +48,24 @@ impl Model for Notations {
     ghost invariant = { λ n. n.by_symbol ≡ found n.by_constant };
 }
 
+/// Puts a notation at the end, by its symbol, which is no other's.
+fn push_by_symbol(
+    by_symbol: &mut Table<(Text, Fixity)>,
+    alloc: Global,
+    constant: &Text,
+    fixity: &Fixity,
+) -> Mem<()>
+    requires { look by_symbol.old (symbol_of fixity.now) ≡ None }
+    ensures ok { OnOk result (by_symbol.new ≡ by_symbol.old ++ (symbol_of fixity.now, (constant.now, fixity.now)) ∷ []) }
+    ensures err { OnErr result (by_symbol.new ≡ by_symbol.old) }
+    ensures memory { IfErr result (λ w. w ≡ Memory) }
+{
+    let symbol = fixity.symbol().copy()?;
+    let constant = constant.copy()?;
+    let fixity = fixity.copied()?;
+    by_symbol.push(alloc, symbol, (constant, fixity))
+}
+
 impl Notations {
     /// No notations.
     pub fn new(alloc: Global) -> Notations
@@ -109,13 +127,11 @@ impl Notations {
         ensures err { OnErr result (self.new ≡ self.old) }
         ensures memory { IfErr result (λ w. w ≡ Memory) }
     {
-        let symbol = fixity.symbol().copy()?;
-        let notation = (constant.copy()?, fixity.copied()?);
-        self.by_symbol.push(alloc, symbol, notation)?;
+        push_by_symbol(&mut self.by_symbol, alloc, &constant, &fixity)?;
         match self.by_constant.push(alloc, constant, fixity) {
             Ok(()) => Ok(()),
             Err(lack) => {
-                self.by_symbol.pop();
+                self.by_symbol.drop_last();
                 Err(lack)
             }
         }

@@ -1,5 +1,5 @@
 //! Tables by name, in order of declaration.
-ghost use Rattle.std.specs.Prelude.{◌≡◌, ◌<◌, [], ◌∷◌, ◌++◌, None, Some, length, is_some, slice_get, MatchOption, IfOk, IfErr, OnOk, OnErr};
+ghost use Rattle.std.specs.Prelude.{◌≡◌, ◌<◌, ℕ, List, [], ◌∷◌, ◌++◌, None, Some, length, is_some, slice_get, MatchOption, IfOk, IfErr, OnOk, OnErr};
 ghost use Rattle.std.specs.List.{IsDistinct};
 ghost use Rattle.std.specs.Map.{keys_of};
 ghost use Rattle.std.specs.Option.{option_copied};
@@ -112,7 +112,27 @@ impl<V: Drop> Table<V> {
     }
 }
 
+impl<V: Drop> Table<V> {
+    /// Drops the last entry.
+    pub(crate) fn drop_last(&mut self)
+        ensures { (es : List (List ℕ × V)) (e : List ℕ × V) → self.old ≡ es ++ e ∷ [] → self.new ≡ es }
+    {
+        self.pop();
+    }
+}
+
 impl<V: Copied> Table<V> {
+    /// Puts a copy of an entry for a new name at the end.
+    fn push_copy(&mut self, alloc: Global, name: &Text, value: &V) -> Mem<()>
+        requires { look self.old name.now ≡ None }
+        ensures ok { OnOk result (self.new ≡ self.old ++ (name.now, value.now) ∷ []) }
+        ensures memory { IfErr result (λ w. w ≡ Memory) }
+    {
+        let name = name.copy()?;
+        let value = value.copied()?;
+        self.push(alloc, name, value)
+    }
+
     /// An equal table; its parts are shared. Fails where memory runs out.
     pub fn copy(&self, alloc: Global) -> Mem<Table<V>>
         ensures ok { IfOk result (λ t. t ≡ self.now) }
@@ -122,7 +142,7 @@ impl<V: Copied> Table<V> {
         let mut copy = Table::new(alloc);
         for i in 0..self.len() {
             let (name, value) = self.at(i);
-            copy.push(alloc, name.copy()?, value.copied()?)?;
+            copy.push_copy(alloc, name, value)?;
         }
         Ok(copy)
     }

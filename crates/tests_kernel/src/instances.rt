@@ -1,5 +1,5 @@
 //! `iv_rules`: instances as they are entered, copied and looked up.
-use crate::written::{got, name, term, text, typ};
+use crate::written::{got, is_written, name, term, text, typ};
 use iv_rules::{FixedTypes, Instance, SchematicTypes, VarTerms};
 use std::alloc::Global;
 use std::process::Abort;
@@ -32,11 +32,16 @@ fn value(rt: &impl Abort, alloc: Global, letter: char, written: &str) -> VarTerm
 /// Whether a list puts this term, alone, for the variable of type `prop` with this letter, and nothing for that of type i.
 fn puts(rt: &impl Abort, alloc: Global, terms: &VarTerms, letter: char, written: &str) -> bool {
     let name = name(rt, alloc, letter);
-    let term = term(rt, alloc, written);
+    let prop = typ(rt, alloc, "p");
     let is_put = terms
-        .get(&name, &typ(rt, alloc, "p"))
-        .is_some_and(|v| v.is(&term));
-    is_put && terms.len() == 1 && terms.get(&name, &typ(rt, alloc, "i")).is_none()
+        .get(&name, &prop)
+        .is_some_and(|v| is_written(rt, alloc, v, written));
+    let other = typ(rt, alloc, "i");
+    let is_alone = terms.len() == 1 && terms.get(&name, &other).is_none();
+    drop(name);
+    drop(prop);
+    drop(other);
+    is_put && is_alone
 }
 
 #[test]
@@ -55,4 +60,8 @@ fn instances_are_copied(rt: HostRuntime) {
     assert!(rt; copy.types.len() == 1 && copy.types.get(&b).is_some_and(|t| t.is_prop()));
     assert!(rt; puts(&rt, alloc, &copy.frees, 'c', "C"));
     assert!(rt; puts(&rt, alloc, &copy.schematics, 'd', "D"));
+    drop(instance);
+    drop(copy);
+    drop(a);
+    drop(b);
 }

@@ -9,7 +9,7 @@
 //! none, `f` that `fixed_hyps` holds and `o` `one_typed`, `F` and `O` that they don't, `d` that its derivation is an instance of
 //! an implication that was introduced.
 use crate::putting::instance;
-use crate::written::{got, name, term, text, typ};
+use crate::written::{expect, got, is_written, name, term, text, typ};
 use iv_kernel::{Goal, NamedThm, Theorems, Thm};
 use iv_rules::{Derivation, Instance};
 use iv_sig::Sig;
@@ -57,7 +57,9 @@ fn begun(rt: &impl Abort, alloc: Global, claim: &Term) -> Option<Thm> {
     }
     let goal = got(rt, Goal::init(alloc, claim));
     assert!(rt; goal.count() == 1 && goal.claim().is(claim));
-    Some(got(rt, goal.thm().copy()))
+    let thm = got(rt, goal.thm().copy());
+    drop(goal);
+    Some(thm)
 }
 
 /// Whether two goals of two subgoals have the same ones, one claim and one proposition.
@@ -78,6 +80,7 @@ fn goal_of(rt: &impl Abort, alloc: Global, claim: &Term, t: &Thm, count: u32) ->
     let goal = got(rt, Goal::made(t.copy().expect(rt, "memory"), count, claim));
     let copy = got(rt, goal.copy());
     assert!(rt; count != 2 || are_one(&copy, &goal));
+    drop(goal);
     Some(copy)
 }
 
@@ -85,9 +88,12 @@ fn goal_of(rt: &impl Abort, alloc: Global, claim: &Term, t: &Thm, count: u32) ->
 fn turned(rt: &impl Abort, alloc: Global, claim: &Term, t: &Thm) -> Option<Thm> {
     let goal = goal_of(rt, alloc, claim, t, 2)?;
     assert_eq!(rt; goal.count(), 2);
-    let goal = got(rt, goal.rotate(alloc, 1, 2));
-    assert!(rt; goal.count() == 2 && goal.claim().is(claim));
-    Some(got(rt, goal.thm().copy()))
+    let other = got(rt, goal.rotate(alloc, 1, 2));
+    assert!(rt; other.count() == 2 && other.claim().is(claim));
+    let thm = got(rt, other.thm().copy());
+    drop(goal);
+    drop(other);
+    Some(thm)
 }
 
 /// A theorem as a goal without subgoals.
@@ -154,14 +160,29 @@ fn of_two(rt: &impl Abort, alloc: Global, letter: char, s: &Thm, t: &Thm) -> Opt
     }
 }
 
+/// The last theorem.
+fn last<'a>(rt: &impl Abort, thms: &'a [Thm]) -> &'a Thm {
+    match thms {
+        [.., t] => t,
+        [] => panic!(rt; "no theorem"),
+    }
+}
+
+/// The one before the last theorem.
+fn before<'a>(rt: &impl Abort, thms: &'a [Thm]) -> &'a Thm {
+    match thms {
+        [.., s, _t] => s,
+        _ => panic!(rt; "no two theorems"),
+    }
+}
+
 /// What a rule makes of a term and the last theorems, where it can be used.
 fn step(rt: &impl Abort, g: &Given, letter: char, a: &Term, thms: &[Thm]) -> Option<Thm> {
-    match (letter, thms) {
-        ('x' | 'y' | 'h' | 'r' | 'u', _) => of_term(rt, g, letter, a),
-        ('i' | 'v' | 'n' | 'g' | 'z', [.., last]) => of_both(rt, g, letter, a, last),
-        ('s' | 'q' | 'l' | 'p', [.., last]) => of_one(rt, g, letter, last),
-        (_, [.., before, last]) => of_two(rt, g.alloc, letter, before, last),
-        _ => None,
+    match letter {
+        'x' | 'y' | 'h' | 'r' | 'u' => of_term(rt, g, letter, a),
+        'i' | 'v' | 'n' | 'g' | 'z' => of_both(rt, g, letter, a, last(rt, thms)),
+        's' | 'q' | 'l' | 'p' => of_one(rt, g, letter, last(rt, thms)),
+        _ => of_two(rt, g.alloc, letter, before(rt, thms), last(rt, thms)),
     }
 }
 
@@ -176,19 +197,24 @@ fn is_instance(d: &Derivation) -> bool {
     }
 }
 
-/// Whether what a sign asks for holds of the last theorem.
-fn holds(rt: &impl Abort, sign: char, a: &Term, thms: &[Thm]) -> bool {
-    match (sign, thms) {
-        ('=', [.., t]) => t.prop().is(a),
-        ('+', [.., t]) => t.hyps().has(a),
-        ('-', [.., t]) => t.hyps().is_nil(),
-        ('f', [.., t]) => t.fixed_hyps(),
-        ('F', [.., t]) => !t.fixed_hyps(),
-        ('o', [.., t]) => t.one_typed(),
-        ('O', [.., t]) => !t.one_typed(),
-        ('d', [.., t]) => is_instance(t.derivation()),
-        _ => panic!(rt; "no theorem"),
+/// Whether what a sign asks for holds of a theorem.
+fn holds(rt: &impl Abort, sign: char, a: &Term, t: &Thm) -> bool {
+    match sign {
+        '=' => t.prop().is(a),
+        '+' => t.hyps().has(a),
+        '-' => t.hyps().is_nil(),
+        'f' => t.fixed_hyps(),
+        'F' => !t.fixed_hyps(),
+        'o' => t.one_typed(),
+        'O' => !t.one_typed(),
+        'd' => is_instance(t.derivation()),
+        _ => panic!(rt; "no sign"),
     }
+}
+
+/// Whether a rule is refused.
+fn is_refused(rt: &impl Abort, g: &Given, letter: char, a: &Term, thms: &[Thm]) -> bool {
+    step(rt, g, letter.to_ascii_lowercase(), a, thms).is_none()
 }
 
 /// Uses rules, and asks, with one term.
@@ -196,14 +222,20 @@ fn use_rules(rt: &impl Abort, g: &Given, a: &Term, rules: &str, thms: &mut Vec<T
     for letter in rules.chars() {
         match letter {
             '=' | '+' | '-' | 'f' | 'F' | 'o' | 'O' | 'd' => {
-                assert!(rt;
-                    holds(rt, letter, a, thms.as_slice()),
-                    "{letter} of {rules}"
+                expect(
+                    rt,
+                    holds(rt, letter, a, last(rt, thms.as_slice())),
+                    letter,
+                    rules,
                 );
             }
             'A'..='Z' => {
-                let made = step(rt, g, letter.to_ascii_lowercase(), a, thms.as_slice());
-                assert!(rt; made.is_none(), "{letter} of {rules}");
+                expect(
+                    rt,
+                    is_refused(rt, g, letter, a, thms.as_slice()),
+                    letter,
+                    rules,
+                );
             }
             _ => {
                 let made = step(rt, g, letter, a, thms.as_slice());
@@ -218,10 +250,15 @@ fn prove(rt: &impl Abort, g: &Given, written: &str) {
     let mut thms = Vec::new(g.alloc);
     for part in written.split_ascii_whitespace() {
         match part.split_once(':') {
-            Some((a, rules)) => use_rules(rt, g, &term(rt, g.alloc, a), rules, &mut thms),
+            Some((a, rules)) => {
+                let a = term(rt, g.alloc, a);
+                use_rules(rt, g, &a, rules, &mut thms);
+                drop(a);
+            }
             None => panic!(rt; "no rules"),
         }
     }
+    drop(thms);
 }
 
 const PROOFS: &[&str] = &[
@@ -251,18 +288,16 @@ fn proofs(rt: HostRuntime) {
     for written in PROOFS {
         prove(&rt, &g, written);
     }
+    drop(g);
 }
 
 /// The theorem `A |- A`, for a letter.
 fn assumed(rt: &impl Abort, alloc: Global, written: &str) -> Thm {
     let prop = term(rt, alloc, written);
     assert!(rt; Thm::can_assume(&prop));
-    got(rt, Thm::assume(alloc, &prop))
-}
-
-/// Whether the theorem is that of a letter.
-fn is_assumed(rt: &impl Abort, alloc: Global, t: &Thm, written: &str) -> bool {
-    t.prop().is(&term(rt, alloc, written))
+    let thm = got(rt, Thm::assume(alloc, &prop));
+    drop(prop);
+    thm
 }
 
 /// `A |- A` with the name `a`, and `B |- B` without one.
@@ -286,9 +321,12 @@ fn theorems_with_names(rt: HostRuntime) {
             );
             assert!(rt; second.name.is_none());
             assert!(rt;
-                is_assumed(&rt, alloc, &first.thm, "A") && is_assumed(&rt, alloc, &second.thm, "B")
+                is_written(&rt, alloc, first.thm.prop(), "A")
+                    && is_written(&rt, alloc, second.thm.prop(), "B")
             );
         }
         _ => panic!(rt; "not two theorems"),
     }
+    drop(theorems);
+    drop(copy);
 }

@@ -1,5 +1,5 @@
 //! `iv_conclusions`: an instance put in a term and in hypotheses, and what makes one usable.
-use crate::written::{are, got, head, is, term, terms, text, typ};
+use crate::written::{are, expect, got, head, is, term, terms, text, typ};
 use iv_conclusions::{are_keys_apart, are_values_typed, instanced, instanced_hyps, is_fresh_for};
 use iv_hsub::is_term;
 use iv_rules::{FixedTypes, FreeTerms, Instance, SchematicTerms, SchematicTypes};
@@ -44,24 +44,30 @@ pub fn instance(rt: &impl Abort, alloc: Global, letter: char, written: &str) -> 
 fn put(rt: &impl Abort, alloc: Global, s: &Instance, written: &str, wanted: &str) -> bool {
     let t = term(rt, alloc, written);
     assert!(rt; is_term(&t, &Types::Nil));
-    is(rt, alloc, instanced(alloc, s, &t), wanted)
+    let is_wanted = is(rt, alloc, instanced(alloc, s, &t), wanted);
+    drop(t);
+    is_wanted
 }
+
+/// A letter, the value that is put for it, a term, and what becomes of that.
+const PUT: &[(char, &str, &str, &str)] = &[
+    // Types are put first, so the value c for y of type i is found for y of type a.
+    ('y', "c", "(Kz)", "(kc)"),
+    // A value for y of type a is found no more.
+    ('z', "c", "(Kz)", "(ky)"),
+    // g c, with %x. k c ==> k x for g, is k c ==> k c.
+    ('g', "%(=(kc)(k0))", "(gc)", "(=(kc)(kc))"),
+];
 
 #[test]
 fn values_are_put(rt: HostRuntime) {
-    let rows = [
-        // Types are put first, so the value c for y of type i is found for y of type a.
-        ('y', "c", "(Kz)", "(kc)"),
-        // A value for y of type a is found no more.
-        ('z', "c", "(Kz)", "(ky)"),
-        // g c, with %x. k c ==> k x for g, is k c ==> k c.
-        ('g', "%(=(kc)(k0))", "(gc)", "(=(kc)(kc))"),
-    ];
-    for (letter, value, written, wanted) in rows {
-        let s = instance(&rt, rt.alloc(), letter, value);
-        assert!(rt;
+    for (letter, value, written, wanted) in PUT {
+        let s = instance(&rt, rt.alloc(), *letter, value);
+        expect(
+            &rt,
             put(&rt, rt.alloc(), &s, written, wanted),
-            "{letter} {written}"
+            *letter,
+            written,
         );
     }
 }
@@ -74,7 +80,10 @@ fn put_hyps(rt: &impl Abort, alloc: Global, s: &Instance, first: &str, second: &
     assert!(rt; is_term(&u, &Types::Nil));
     let rest = Terms::only(alloc, &u).expect(rt, "memory");
     let hs = Terms::cons(alloc, t, rest).expect(rt, "memory");
-    instanced_hyps(alloc, s, &hs)
+    let made = instanced_hyps(alloc, s, &hs);
+    drop(u);
+    drop(hs);
+    made
 }
 
 /// k y at both types becomes one hypothesis.
@@ -93,26 +102,30 @@ fn equal_hypotheses_are_kept_once(rt: HostRuntime) {
     );
 }
 
+const FRESH: &[(&str, bool)] = &[("(Kz)", false), ("(ky)", true), ("(ky)(gy)", false)];
+
 /// A type variable and a free variable that are replaced may not stand in hypotheses.
 #[test]
 fn hypotheses_are_kept_free(rt: HostRuntime) {
     let s = instance(&rt, rt.alloc(), 'g', "%(=(kc)(k0))");
     are_keys_apart(&s);
-    for (hypotheses, wanted) in [("(Kz)", false), ("(ky)", true), ("(ky)(gy)", false)] {
+    for (hypotheses, wanted) in FRESH {
         let given = is_fresh_for(&s, &terms(&rt, rt.alloc(), hypotheses));
-        assert!(rt; given == wanted, "{hypotheses}");
+        expect(&rt, given == *wanted, 'g', hypotheses);
     }
 }
+
+const TYPED: &[(char, &str, bool)] = &[
+    ('y', "c", true),
+    ('g', "%(=(kc)(k0))", true),
+    ('z', "c", false),
+];
 
 /// c is a value for y of type i, and not for y of type a.
 #[test]
 fn values_have_their_types(rt: HostRuntime) {
-    for (letter, value, wanted) in [
-        ('y', "c", true),
-        ('g', "%(=(kc)(k0))", true),
-        ('z', "c", false),
-    ] {
-        let given = are_values_typed(&instance(&rt, rt.alloc(), letter, value));
-        assert!(rt; given == wanted, "{letter}");
+    for (letter, value, wanted) in TYPED {
+        let given = are_values_typed(&instance(&rt, rt.alloc(), *letter, value));
+        expect(&rt, given == *wanted, *letter, value);
     }
 }

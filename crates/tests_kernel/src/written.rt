@@ -14,6 +14,11 @@ pub fn got<T>(rt: &impl Abort, made: Mem<T>) -> T {
     made.expect(rt, "memory")
 }
 
+/// Stops where something isn't so, with what it is about.
+pub fn expect(rt: &impl Abort, is_so: bool, letter: char, about: &str) {
+    assert!(rt; is_so, "{letter} of {about}");
+}
+
 pub fn text(rt: &impl Abort, alloc: Global, chars: &[char]) -> Text {
     got(rt, Text::from_slice(alloc, chars))
 }
@@ -71,7 +76,9 @@ fn types(rt: &impl Abort, alloc: Global, written: &str) -> Types {
 
 pub fn typ(rt: &impl Abort, alloc: Global, written: &str) -> Typ {
     let types = types(rt, alloc, written);
-    got(rt, first(rt, &types).copy())
+    let typ = got(rt, first(rt, &types).copy());
+    drop(types);
+    typ
 }
 
 /// The type of a variable or a constant, or that over which a sign abstracts.
@@ -162,18 +169,37 @@ pub fn terms(rt: &impl Abort, alloc: Global, written: &str) -> Terms {
             _ => got(rt, Terms::cons(alloc, atom(rt, alloc, letter), terms)),
         };
     }
+    drop(outer);
     terms
 }
 
-pub fn term(rt: &impl Abort, alloc: Global, written: &str) -> Term {
-    match terms(rt, alloc, written) {
-        Terms::Cons(first, _rest) => got(rt, first.get().copy()),
+fn first_term<'a>(rt: &impl Abort, terms: &'a Terms) -> &'a Term {
+    match terms {
+        Terms::Cons(first, _rest) => first.get(),
         Terms::Nil => panic!(rt; "no term"),
     }
 }
 
+pub fn term(rt: &impl Abort, alloc: Global, written: &str) -> Term {
+    let terms = terms(rt, alloc, written);
+    let term = got(rt, first_term(rt, &terms).copy());
+    drop(terms);
+    term
+}
+
 fn same(t: Term, u: Term) -> bool {
-    t.is(&u)
+    let is_same = t.is(&u);
+    drop(t);
+    drop(u);
+    is_same
+}
+
+/// Whether it is the term that is written.
+pub fn is_written(rt: &impl Abort, alloc: Global, t: &Term, written: &str) -> bool {
+    let wanted = term(rt, alloc, written);
+    let is_same = t.is(&wanted);
+    drop(wanted);
+    is_same
 }
 
 /// Whether a call made this term.

@@ -25,7 +25,7 @@ use Rattle.iv_hsub.proofs.Terms.Eta.{EtaCase, eta_cases, eta-short, IsTerm-eta}
 use Rattle.iv_hsub.proofs.Terms.Put.{happ-nil, happ-spine, happ-lam, put-here}
 use Rattle.iv_hsub.proofs.Terms.Cancel.{put_head-cancel, put-expand}
 
-is_free-true : (x y : Name) (a b : Typ) → is_free x a (Free y b) ≡ true → Free x a ≡ Free y b
+pub is_free-true : (x y : Name) (a b : Typ) → is_free x a (Free y b) ≡ true → Free x a ≡ Free y b
 is_free-true x y a b q =
     let p = and_parts (same_name x y) (same_typ a b) q in
     let e = same_name-true x y p.0 in
@@ -34,7 +34,7 @@ is_free-true x y a b q =
 
 module _ (x : Name) (a : Typ) where
   -- the variable becomes the index, any other head is raised
-  bind-cases : (k : ℕ) (h : Head) → ((h ≡ Free x a) × (bind_head x a k h ≡ Bound k)) ⊎ (bind_head x a k h ≡ raise_head 1 k h)
+  pub bind-cases : (k : ℕ) (h : Head) → ((h ≡ Free x a) × (bind_head x a k h ≡ Bound k)) ⊎ (bind_head x a k h ≡ raise_head 1 k h)
   bind-cases k (Free y b) = go (is_free x a (Free y b)) refl
     where
       go : (v : Bool) → is_free x a (Free y b) ≡ v → ((Free y b ≡ Free x a) × (bind_head x a k (Free y b) ≡ Bound k)) ⊎ (bind_head x a k (Free y b) ≡ Free y b)
@@ -89,7 +89,7 @@ module _ (x : Name) (a : Typ) where
   ends-bind k (tm_cons t Nil) = index_0-bind k t
   ends-bind k (tm_cons t (tm_cons u us)) = ends-bind k (tm_cons u us)
 
-  contracts-bind : (k : ℕ) (b : Term) → contracts (bind x a (suc k) b) ≡ contracts b
+  pub contracts-bind : (k : ℕ) (b : Term) → contracts (bind x a (suc k) b) ≡ contracts b
   unfolding bind contracts
   contracts-bind k (lam c b) = refl
   contracts-bind k (Spine h ts) =

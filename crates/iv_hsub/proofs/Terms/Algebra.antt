@@ -190,7 +190,7 @@ module _ (f : Term → Terms → Term) (raises : Raises f) where
     raise_all-below d c k c' v Nil r = refl
     raise_all-below d c k c' v (tm_cons t ts) r = let x = raise-below d c k c' v t r in let y = raise_all-below d c k c' v ts r in λ i. tm_cons (x i) (y i)
 
-takes_cases : (a d : Typ) → (a ≡ fun d (cod a)) ⊎ (a ≡ fun d (cod a) → ⊥)
+pub takes_cases : (a d : Typ) → (a ≡ fun d (cod a)) ⊎ (a ≡ fun d (cod a) → ⊥)
 takes_cases a d = go (same_typ a (fun d (cod a))) refl
   where
     go : (v : Bool) → same_typ a (fun d (cod a)) ≡ v → (a ≡ fun d (cod a)) ⊎ (a ≡ fun d (cod a) → ⊥)

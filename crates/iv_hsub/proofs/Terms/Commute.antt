@@ -47,13 +47,13 @@ pub happ-append : (b : Typ) → (v : Term) (ts us : Terms) (bs : Types) → HasT
 unfolding AppendsAt
 happ-append b = fun_induction AppendsAt (λ c parts. append-step c (λ x y e. (parts x y e).1)) b
 
-at_index : (c : Typ) (k : ℕ) (us : Terms) → happ c (raise k 0 (index 0)) us ≡ Spine (Bound k) us
+pub at_index : (c : Typ) (k : ℕ) (us : Terms) → happ c (raise k 0 (index 0)) us ≡ Spine (Bound k) us
 unfolding raise append
 at_index c k us =
     let e : 0 + k ≡ k = omega arith in
     ap (λ h. happ c (Spine h Nil) us) (raise-high k 0 0 (omega arith) ∙ ap Bound e) ∙ happ-spine c (Bound k) Nil us
 
-at_expand : (c : Typ) (h : Head) (ts : Terms) → eta c (Spine (raise_head 1 0 h) (append (raise_all 1 0 ts) (tm_cons (index 0) Nil))) ≡ Spine h ts
+pub at_expand : (c : Typ) (h : Head) (ts : Terms) → eta c (Spine (raise_head 1 0 h) (append (raise_all 1 0 ts) (tm_cons (index 0) Nil))) ≡ Spine h ts
 unfolding expand
 at_expand c h ts = eta-expand c h ts
 

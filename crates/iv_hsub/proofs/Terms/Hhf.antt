@@ -45,16 +45,16 @@ all-true (Schematic x a) q = absurd (let bad : false ≡ true = q in cc)
 all-true (Bound n) q = absurd (let bad : false ≡ true = q in cc)
 
 -- raising changes no test
-head-raise : (P : Head → Bool) → ((n m : ℕ) → P (Bound n) ≡ P (Bound m)) → (d c : ℕ) (h : Head) → P (raise_head d c h) ≡ P h
+pub head-raise : (P : Head → Bool) → ((n m : ℕ) → P (Bound n) ≡ P (Bound m)) → (d c : ℕ) (h : Head) → P (raise_head d c h) ≡ P h
 head-raise P f d c (Bound n) = f _ n
 head-raise P f d c (Const x a) = refl
 head-raise P f d c (Free x a) = refl
 head-raise P f d c (Schematic x a) = refl
 
-is_imp-raise : (d c : ℕ) (h : Head) → is_imp (raise_head d c h) ≡ is_imp h
+pub is_imp-raise : (d c : ℕ) (h : Head) → is_imp (raise_head d c h) ≡ is_imp h
 is_imp-raise d c h = head-raise is_imp (λ n m. refl) d c h
 
-is_all-raise : (d c : ℕ) (h : Head) → is_all (raise_head d c h) ≡ is_all h
+pub is_all-raise : (d c : ℕ) (h : Head) → is_all (raise_head d c h) ≡ is_all h
 is_all-raise d c h = head-raise is_all (λ n m. refl) d c h
 
 is_one-raise : (d c : ℕ) (ts : Terms) → is_one (raise_all d c ts) ≡ is_one ts
@@ -144,10 +144,10 @@ chosen : (P : Term → Type 0) (v : Bool) (t u : Term) → (v ≡ true → P t) 
 chosen P true t u f g = f refl
 chosen P false t u f g = g refl
 
-IsHhf-imp : (a b : Term) → IsHhf a → IsHhf b → is_quantified b ≡ false → IsHhf (imp a b)
+pub IsHhf-imp : (a b : Term) → IsHhf a → IsHhf b → is_quantified b ≡ false → IsHhf (imp a b)
 IsHhf-imp a b p q e = ((p, (q, tt)), λ r. e)
 
-IsHhf-all : (h : Head) (b : Term) → IsHhf b → IsHhf (all_of h b)
+pub IsHhf-all : (h : Head) (b : Term) → IsHhf b → IsHhf (all_of h b)
 IsHhf-all h b p = ((IsHhf-eta (bound_type h) b p, tt), λ q. tt)
 
 is_one-last : (ts : Terms) (t : Term) → is_one (last ts t) ≡ is_nil ts
@@ -168,7 +168,7 @@ IsHhf-push_expanded a h ts p q =
     (λ e. IsHhf-all h _ (IsHhf-imp (raise 1 0 a) (Spine (Bound 1) (one (index 0))) (IsHhf-raise 1 0 a p) (((tt, λ r. absurd (let bad : false ≡ true = r in cc)), tt), λ r. absurd (let bad : false ≡ true = r in cc)) refl))
     (λ e. IsHhf-imp a (expand h ts) p (IsHhf-expand h ts q) (quantified-expand h ts ∙ e))
 
-nil-true : (ts : Terms) → is_nil ts ≡ true → ts ≡ Nil
+pub nil-true : (ts : Terms) → is_nil ts ≡ true → ts ≡ Nil
 nil-true Nil e = refl
 nil-true (tm_cons t ts) e = absurd (let bad : false ≡ true = e in cc)
 
@@ -218,7 +218,7 @@ pub imp-term : (bs : Types) (a b : Term) → Has bs prop a → Has bs prop b →
 unfolding Has type_of result_type cod
 imp-term bs a b p q = ((tt, (ap (λ z. fun z (fun prop prop)) (sym p.1), (p.0, (ap (λ z. fun z prop) (sym q.1), (q.0, tt))))), refl)
 
-all_head-term : (bs : Types) (c : Typ) (t : Term) → Has bs (fun c prop) t → Has bs prop (Spine (all_head c) (one t))
+pub all_head-term : (bs : Types) (c : Typ) (t : Term) → Has bs (fun c prop) t → Has bs prop (Spine (all_head c) (one t))
 unfolding Has type_of result_type cod
 all_head-term bs c t p = ((tt, (ap (λ z. fun z prop) (sym p.1), (p.0, tt))), refl)
 
@@ -244,15 +244,15 @@ expand-has bs c d h ts p =
       result-append (head_type bs' k) us (one (index 0)) ∙ ap cod r,
     )
 
-raise-has : (bs : Types) (c : Typ) (a : Term) → Has bs prop a → Has (ty_cons c bs) prop (raise 1 0 a)
+pub raise-has : (bs : Types) (c : Typ) (a : Term) → Has bs prop a → Has (ty_cons c bs) prop (raise 1 0 a)
 unfolding Has join types_len
 raise-has bs c a p = (IsTerm-raise no_types (ty_cons c no_types) bs a p.0, type_of-raise no_types (ty_cons c no_types) bs a ∙ p.1)
 
-all-type : (bs : Types) (h : Head) → is_all h ≡ true → head_type bs h ≡ all_typ (bound_type h)
+pub all-type : (bs : Types) (h : Head) → is_all h ≡ true → head_type bs h ≡ all_typ (bound_type h)
 all-type bs h q = ap (head_type bs) (all-true h q)
 
 -- x y, under y and x
-variable-has : (bs : Types) (c d : Typ) → c ≡ fun d prop → Has (ty_cons d (ty_cons c bs)) prop (Spine (Bound 1) (one (index 0)))
+pub variable-has : (bs : Types) (c d : Typ) → c ≡ fun d prop → Has (ty_cons d (ty_cons c bs)) prop (Spine (Bound 1) (one (index 0)))
 unfolding Has type_of result_type types_len type_at cod
 variable-has bs c d e = ((omega arith, (e ∙ ap (fun d) (sym (ap cod e)), ((omega arith, tt), tt))), ap cod e)
 
@@ -274,7 +274,7 @@ push_expanded-term bs c a h (tm_cons t ts) p q =
     (λ e. imp-term (ty_cons c bs) a (expand h (tm_cons t ts)) p (expand-has bs c prop h (tm_cons t ts) q))
 
 -- the argument of !! is a function to propositions
-all-argument : (bs : Types) (h : Head) (t : Term) → is_all h ≡ true → IsTerm bs (Spine h (one t)) → Has bs (fun (bound_type h) prop) t
+pub all-argument : (bs : Types) (h : Head) (t : Term) → is_all h ≡ true → IsTerm bs (Spine h (one t)) → Has bs (fun (bound_type h) prop) t
 unfolding Has cod
 all-argument bs h t q p =
     let e : head_type bs h ≡ all_typ (bound_type h) = all-type bs h q in
@@ -298,14 +298,14 @@ mutual
       all_of-term bs h _ b.0 (push_under-term bs (bound_type h) (raise 1 0 a) t (raise-has bs (bound_type h) a p) s))
       (λ e. imp-term bs a (Spine h (tm_cons t ts)) p q)
 
-  push_under-term : (bs : Types) (c : Typ) (a t : Term) → Has (ty_cons c bs) prop a → Has bs (fun c prop) t → Has (ty_cons c bs) prop (push_under a t)
+  pub push_under-term : (bs : Types) (c : Typ) (a t : Term) → Has (ty_cons c bs) prop a → Has bs (fun c prop) t → Has (ty_cons c bs) prop (push_under a t)
   push_under-term bs c a (lam d t) p q =
       let e = fun-parts d (type_of (ty_cons d bs) t) c prop q.1 in
       push-term (ty_cons c bs) a t p (subst (λ z. Has (ty_cons z bs) prop t) e.0 (q.0.0, e.1))
   push_under-term bs c a (Spine h ts) p q = push_expanded-term bs c a h ts p q
 
 -- the arguments of ==> are propositions, at most two
-imp-arguments : (bs : Types) (t u : Term) → AreArgs bs implies (tm_cons t (tm_cons u Nil)) → Has bs prop t × Has bs prop u
+pub imp-arguments : (bs : Types) (t u : Term) → AreArgs bs implies (tm_cons t (tm_cons u Nil)) → Has bs prop t × Has bs prop u
 unfolding Has cod
 imp-arguments bs t u p =
     let e = fun-parts prop (fun prop prop) (type_of bs t) (fun prop prop) p.0 in
@@ -357,7 +357,7 @@ mutual
       let r = hhf_spine-term bs h (hhf_all ts) (p.0, hhf-args bs c ts p.1) in
       (r.0, r.1 ∙ result-hhf c ts)
 
-  hhf-args : (bs : Types) (a : Typ) (ts : Terms) → AreArgs bs a ts → AreArgs bs a (hhf_all ts)
+  pub hhf-args : (bs : Types) (a : Typ) (ts : Terms) → AreArgs bs a ts → AreArgs bs a (hhf_all ts)
   hhf-args bs a Nil p = tt
   hhf-args bs a (tm_cons t ts) p =
       let r = hhf-term bs t p.1.0 in
@@ -373,12 +373,12 @@ mutual
       hhf_spine-hhf h (hhf_all ts) (AreHhf-hhf bs (head_type bs h) ts p.1)
       (λ e f. imp-two bs (hhf_all ts) (subst (λ z. AreArgs bs z (hhf_all ts)) (ap (head_type bs) (imp-true h e)) (hhf-args bs (head_type bs h) ts p.1)) f)
 
-  AreHhf-hhf : (bs : Types) (a : Typ) (ts : Terms) → AreArgs bs a ts → AreHhf (hhf_all ts)
+  pub AreHhf-hhf : (bs : Types) (a : Typ) (ts : Terms) → AreArgs bs a ts → AreHhf (hhf_all ts)
   AreHhf-hhf bs a Nil p = tt
   AreHhf-hhf bs a (tm_cons t ts) p = (IsHhf-hhf bs t p.1.0, AreHhf-hhf bs (cod a) ts p.1.1)
 
 -- what has the form stays
-push-plain : (a b : Term) → is_quantified b ≡ false → push a b ≡ imp a b
+pub push-plain : (a b : Term) → is_quantified b ≡ false → push a b ≡ imp a b
 unfolding push
 push-plain a (lam c t) e = refl
 push-plain a (Spine h Nil) e = refl
@@ -404,7 +404,7 @@ mutual
   hhf-same bs (lam c b) p q = ap (eta c) (hhf-same (ty_cons c bs) b p.0 q) ∙ eta-short c b p.1
   hhf-same bs (Spine h ts) p q = ap (hhf_spine h) (hhf_all-same bs (head_type bs h) ts p.1 q.0) ∙ hhf_spine-same h ts q.1
 
-  hhf_all-same : (bs : Types) (a : Typ) (ts : Terms) → AreArgs bs a ts → AreHhf ts → hhf_all ts ≡ ts
+  pub hhf_all-same : (bs : Types) (a : Typ) (ts : Terms) → AreArgs bs a ts → AreHhf ts → hhf_all ts ≡ ts
   hhf_all-same bs a Nil p q = refl
   hhf_all-same bs a (tm_cons t ts) p q =
       let e = hhf-same bs t p.1.0 q.0 in let f = hhf_all-same bs (cod a) ts p.1.1 q.1 in λ i. tm_cons (e i) (f i)

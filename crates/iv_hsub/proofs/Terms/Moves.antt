@@ -43,7 +43,7 @@ all_test c a r e d =
     g ∙ ap (λ z. z && same_typ a (all_typ (dom (dom a)))) (sym f)
 
 -- a term is !! at a predicate where the test says so
-all-test : (a : Typ) → is_all (all_head a) ≡ true
+pub all-test : (a : Typ) → is_all (all_head a) ≡ true
 unfolding dom
 all-test a = ap (λ z. bytes_eq (codes "!!") (codes "!!") && z) (same_typ-same (all_typ a))
 
@@ -63,7 +63,7 @@ pub quantified_test : (t : Term) (r : Bool) → r ≡ is_quantified t → (IsTru
 quantified_test t r e = (λ h. quantified-there t (sym e ∙ h), λ p. e ∙ quantified-back t p)
 
 -- a head with arguments is an implication where the test says so
-imp-test : is_imp imp_head ≡ true
+pub imp-test : is_imp imp_head ≡ true
 imp-test = ap (λ z. bytes_eq (codes "==>") (codes "==>") && z) (same_typ-same implies)
 
 pub spine_moves : (h : Head) (ts : Terms) (r : Bool) → (IsTrue r ↔ IsImplication (Spine h ts)) → r ≡ (is_imp h && are_two ts)

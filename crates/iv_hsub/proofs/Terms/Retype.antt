@@ -103,7 +103,7 @@ module _ (f : Typ → Typ) where
       λ i. ends-retype ts i && not (is_bound-retype 0 h i || e i)
 
   -- raising
-  raise_head-retype : (d c : ℕ) (h : Head) → retype_head f (raise_head d c h) ≡ raise_head d c (retype_head f h)
+  pub raise_head-retype : (d c : ℕ) (h : Head) → retype_head f (raise_head d c h) ≡ raise_head d c (retype_head f h)
   raise_head-retype d c (Const x a) = refl
   raise_head-retype d c (Free x a) = refl
   raise_head-retype d c (Schematic x a) = refl
@@ -126,7 +126,7 @@ module _ (f : Typ → Typ) where
   retype_all-append (tm_cons t ts) us = ap (λ w. tm_cons (retype f t) w) (retype_all-append ts us)
 
   -- contraction
-  retype-expand : (h : Head) (ts : Terms) → retype f (expand h ts) ≡ expand (retype_head f h) (retype_all f ts)
+  pub retype-expand : (h : Head) (ts : Terms) → retype f (expand h ts) ≡ expand (retype_head f h) (retype_all f ts)
   unfolding expand retype
   retype-expand h ts =
       let x = raise_head-retype 1 0 h in

@@ -17,11 +17,12 @@ use Rattle.iv_hsub.specs.Index.{eta}
 use Rattle.iv_hsub.specs.Retype.{map_typ, map_typs, retype_head, retype, retype_all}
 use Rattle.iv_hsub.specs.Inst.{use_value, inst_head, inst, inst_all, HeadVars, Vars, AllVars, Fits}
 use Rattle.iv_put.specs.Subst.{by_name}
-use Rattle.iv_hsub.proofs.Terms.Retype.{retype-eta, retype-term, retype-has}
+use Rattle.iv_put.specs.Putting.{then_value}
+use Rattle.iv_hsub.proofs.Theory.{retype-eta, retype-term, retype-has}
 use Rattle.iv_put.proofs.Facts.RetypeUse.{retype-happ}
-use Rattle.iv_hsub.proofs.Terms.Inst.{closed-has, inst-term, inst-args, Typed}
+use Rattle.iv_hsub.proofs.Theory.{closed-has, inst-term, inst-args, Typed}
 use Rattle.iv_put.proofs.Facts.Vars.{Brings, inst-vars}
-use Rattle.iv_put.proofs.Facts.InstUse.{then_value, then_inst, inst-inst}
+use Rattle.iv_put.proofs.Facts.InstUse.{then_inst, inst-inst}
 
 -- conditions on the variables of a term
 module _ (P Q R : Head → Typ → Type 0) (both : (h : Head) → HeadVars P h → HeadVars Q h → HeadVars R h) where
@@ -30,7 +31,7 @@ module _ (P Q R : Head → Typ → Type 0) (both : (h : Head) → HeadVars P h �
     vars-both (lam a b) p q = vars-both b p q
     vars-both (Spine h ts) p q = (both h p.0 q.0, vars_all-both ts p.1 q.1)
 
-    vars_all-both : (ts : Terms) → AllVars P ts → AllVars Q ts → AllVars R ts
+    pub vars_all-both : (ts : Terms) → AllVars P ts → AllVars Q ts → AllVars R ts
     vars_all-both Nil p q = tt
     vars_all-both (tm_cons t ts) p q = (vars-both t p.0 q.0, vars_all-both ts p.1 q.1)
 
@@ -64,7 +65,7 @@ module _ (F G : Head → Option Term) where
     inst-agree (lam a b) e = ap (eta a) (inst-agree b e)
     inst-agree (Spine h ts) e = ap (inst_head F h) (inst_all-agree ts e.1) ∙ inst_head-agree h (inst_all G ts) e.0
 
-    inst_all-agree : (ts : Terms) → AllVars (λ k a. F k ≡ G k) ts → inst_all F ts ≡ inst_all G ts
+    pub inst_all-agree : (ts : Terms) → AllVars (λ k a. F k ≡ G k) ts → inst_all F ts ≡ inst_all G ts
     inst_all-agree Nil e = refl
     inst_all-agree (tm_cons t ts) e = let x = inst-agree t e.0 in let y = inst_all-agree ts e.1 in λ i. tm_cons (x i) (y i)
 
@@ -109,7 +110,7 @@ module _ (f : Typ → Typ) (V : Name → Option Term) where
     retype-insts bs c Nil p q = refl
     retype-insts bs c (tm_cons t ts) p q = let x = retype-inst bs t p.0 q.1.0 in let y = retype-insts bs (cod c) ts p.1 q.1.1 in λ i. tm_cons (x i) (y i)
 
-some-parts : (x y : Term) → Some x ≡ Some y → x ≡ y
+pub some-parts : (x y : Term) → Some x ≡ Some y → x ≡ y
 some-parts x y e = cc
 
 -- a value only where it has the variable's type
@@ -124,7 +125,7 @@ fitting V h = None
 unfoldable pub Closed : (Name → Option Term) → Type 0
 Closed V = (x : Name) (v : Term) → V x ≡ Some v → IsTerm no_types v
 
-fit-typed : (o : Option Term) (a : Typ) → ((v : Term) → o ≡ Some v → IsTerm no_types v) → Fits (fit o a) a
+pub fit-typed : (o : Option Term) (a : Typ) → ((v : Term) → o ≡ Some v → IsTerm no_types v) → Fits (fit o a) a
 unfolding fit
 fit-typed None a c = tt
 fit-typed (Some v) a c = go (same_typ (type_of no_types v) a) refl

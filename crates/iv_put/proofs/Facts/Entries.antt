@@ -15,15 +15,15 @@ use Rattle.iv_term.specs.Term.{lam, tm_cons}
 use Rattle.iv_text.proofs.Same.{same_name-true}
 use Rattle.iv_hsub.specs.Typing.{cod, head_type, type_of, IsTerm, AreArgs, HasType}
 use Rattle.iv_hsub.specs.Index.{eta}
-use Rattle.iv_hsub.proofs.Terms.Eta.{eta-short}
+use Rattle.iv_hsub.proofs.Theory.{eta-short}
 use Rattle.iv_subst.specs.TySubst.{TyMap, at, put_typ, put_typs}
 use Rattle.iv_subst.specs.TySubst as types_specs
 use Rattle.iv_subst.proofs.Laws.Put.{put-composed}
 use Rattle.iv_hsub.specs.Retype.{map_typ, map_typs, retype_head, retype, retype_all}
 use Rattle.iv_hsub.specs.Inst.{inst_head, inst, inst_all, Vars, Fits}
 use Rattle.iv_put.specs.Subst.{TermMap, Substitution, value_of, has_value, by_map, by_name, values, applied, CanApply, Values, AreClosed, under, unhidden, composed, CanCompose, CanFollow}
-use Rattle.iv_hsub.proofs.Terms.Retype.{retype-term}
-use Rattle.iv_hsub.proofs.Terms.Inst.{inst-term}
+use Rattle.iv_hsub.proofs.Theory.{retype-term}
+use Rattle.iv_hsub.proofs.Theory.{inst-term}
 use Rattle.iv_put.proofs.Facts.Composed.{then_by_value, then_by, inst-then, fits-then, follows-can, Closed, Follows}
 
 -- a map of types as a function

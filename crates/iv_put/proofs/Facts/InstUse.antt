@@ -13,11 +13,12 @@ use Rattle.iv_term.specs.Term.{lam, tm_cons}
 use Rattle.iv_hsub.specs.Typing.{cod, types_len, type_at, join, head_type, result_type, type_of, IsTerm, AreArgs, HasType}
 use Rattle.iv_hsub.specs.Index.{raise, eta}
 use Rattle.iv_hsub.specs.Hsub.{append, put_head, put, put_all, happ}
-use Rattle.iv_hsub.proofs.Terms.Base.{type_at-here, fun_induction}
-use Rattle.iv_hsub.proofs.Terms.Put.{happ-nil, happ-spine, happ-lam, put-low, put-here, put-high, index_cases, put-term, put-args, happ-good, Has, lam-type}
-use Rattle.iv_hsub.proofs.Terms.Commute.{raised-type, put-eta, both, Uses, happ-append, happ-eta}
+use Rattle.iv_hsub.proofs.Theory.{type_at-here, fun_induction}
+use Rattle.iv_hsub.proofs.Theory.{happ-nil, happ-spine, happ-lam, put-low, put-here, put-high, index_cases, put-term, put-args, happ-good, Has, lam-type}
+use Rattle.iv_hsub.proofs.Theory.{raised-type, put-eta, both, Uses, happ-append, happ-eta}
 use Rattle.iv_hsub.specs.Inst.{use_value, inst_head, inst, inst_all, Fits}
-use Rattle.iv_hsub.proofs.Terms.Inst.{closed-has, put-none, result-inst, inst_all-append, Typed, typed-term, typed-args, inst-raise, inst-eta}
+use Rattle.iv_put.specs.Putting.{then_value}
+use Rattle.iv_hsub.proofs.Theory.{closed-has, put-none, result-inst, inst_all-append, Typed, typed-term, typed-args, inst-raise, inst-eta}
 
 -- a variable that a value may be put for, under substitution for an index
 pub use_value-put : (a : Typ) (bs : Types) (v : Term) → HasType bs a v → (es : Types) (o : Option Term) (h : Head) (c : Typ) (us : Terms) → Fits o c
@@ -120,7 +121,7 @@ module _ (F : Head → Option Term) (typed : Typed F) where
       ∙ ap (λ z. happ (cod a) z (inst_all F us)) (inst-put d s.0 bs u (pu.1.0, k.1.0) no_types t pv.0.0)
       ∙ sym (happ-eta a d bs (inst F t) (inst F u) (inst_all F us) k.0 (typed-term F typed (ty_cons d bs) (type_of (ty_cons d bs) t) t (pv.0.0, refl)).0)
 
-  inst-passes : (a : Typ) → Passes a
+  pub inst-passes : (a : Typ) → Passes a
   inst-passes a = fun_induction Passes passes-step a
 
   pub inst-happ : (a : Typ) (bs : Types) (v : Term) (us : Terms) → HasType bs a v → AreArgs bs a us → inst F (happ a v us) ≡ happ a (inst F v) (inst_all F us)
@@ -128,10 +129,6 @@ module _ (F : Head → Option Term) (typed : Typed F) where
   inst-happ a = inst-passes a
 
 -- one function of values and then another
-unfoldable pub then_value : (Head → Option Term) → Option Term → Head → Option Term
-then_value G None h = G h
-then_value G (Some v) h = Some (inst G v)
-
 abbrev pub then_inst : (Head → Option Term) → (Head → Option Term) → Head → Option Term
 then_inst F G h = then_value G (F h) h
 

@@ -3,11 +3,8 @@ use Rattle.std.proofs.Common.{◌≡◌, ℕ, true, false, [], ◌∷◌, ◌++�
 use Rattle.std.proofs.lemmas.List.{append_assoc, append-nil, drop_all}
 use Rattle.iv_text.specs.declared.name.Name.{Name}
 use Rattle.iv_term.specs.declared.term.Term.{Term}
-use Rattle.iv_hsub.specs.Made.{IsPast}
-use Rattle.iv_hsub.proofs.Terms.Past.{past-left, past-right}
 use Rattle.iv_subst.proofs.Laws.Entries.{drop-at}
 use Rattle.iv_put.specs.Subst.{TermMap, Substitution, has_value, applied, CanApply, Values, under, unhidden}
-use Rattle.iv_put.specs.Made.{made_applied, made_under}
 use Rattle.iv_put.proofs.Facts.Values.{both}
 
 -- the entries that a first map doesn't hide
@@ -34,30 +31,23 @@ module _ (first : TermMap) where
       let f : b.1 ≡ b0.1 ++ unhidden first m = sym (append-nil b.1) ∙ ap (λ z. b.1 ++ unhidden first z) (sym (drop_all i m l)) ∙ h in
       λ k. both (e k) (f k)
 
--- the entries under a second substitution: what is left can be applied, and what it makes is made by all
+-- the entries under a second substitution: what is left can be applied
 pub record Under (g : Substitution) (m : TermMap) (b0 b : Substitution) (i : ℕ) : Type 0 where
   pub types : b.0 ≡ b0.0
   pub terms : b.1 ++ under g (drop i m) ≡ b0.1 ++ under g m
   pub rest : Values (CanApply g) (drop i m)
-  pub made : IsPast (made_under g (drop i m)) → IsPast (made_under g m)
 
 module _ (g : Substitution) (m : TermMap) (b0 : Substitution) where
   pub under-begun : Values (CanApply g) m → Under g m b0 b0 0
-  under-begun k = record { types = refl; terms = refl; rest = k; made = λ h. h }
+  under-begun k = record { types = refl; terms = refl; rest = k }
 
   pub under-can : (b : Substitution) (i : ℕ) (x : Name) (v : Term) → Under g m b0 b i → slice_get m i ≡ Some (x, v) → CanApply g v
   unfolding Values
   under-can b i x v u h = let all : Values (CanApply g) ((x, v) ∷ drop (i + 1) m) = subst (Values (CanApply g)) (drop-at m i (x, v) h) u.rest in all.0
 
-  pub under-past : (b : Substitution) (i : ℕ) (x : Name) (v : Term) → Under g m b0 b i → slice_get m i ≡ Some (x, v) → IsPast (made_applied g v) → IsPast (made_under g m)
-  unfolding made_under
-  under-past b i x v u h p =
-      let q : IsPast (made_under g ((x, v) ∷ drop (i + 1) m)) = past-left _ _ p in
-      u.made (subst (λ z. IsPast (made_under g z)) (sym (drop-at m i (x, v) h)) q)
-
   pub under-on : (b more : Substitution) (i : ℕ) (x : Name) (v w : Term) → Under g m b0 b i → slice_get m i ≡ Some (x, v) → w ≡ applied g v
       → more ≡ both b.0 (b.1 ++ (x, w) ∷ []) → Under g m b0 more (i + 1)
-  unfolding Values under made_under
+  unfolding Values under
   under-on b more i x v w u h e q =
       let d = drop-at m i (x, v) h in
       let all : Values (CanApply g) ((x, v) ∷ drop (i + 1) m) = subst (Values (CanApply g)) d u.rest in
@@ -67,7 +57,6 @@ module _ (g : Substitution) (m : TermMap) (b0 : Substitution) where
         terms = ap (λ z. z.1 ++ under g (drop (i + 1) m)) q' ∙ append_assoc b.1 ((x, applied g v) ∷ []) (under g (drop (i + 1) m))
             ∙ ap (λ z. b.1 ++ under g z) (sym d) ∙ u.terms;
         rest = all.1;
-        made = λ p. u.made (subst (λ z. IsPast (made_under g z)) (sym d) (past-right (made_applied g v) _ p));
       }
 
   pub under-end : (b : Substitution) (i : ℕ) → Under g m b0 b i → length m ≤ i → b ≡ both b0.0 (b0.1 ++ under g m)

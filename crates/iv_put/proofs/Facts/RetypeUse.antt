@@ -13,11 +13,11 @@ use Rattle.iv_term.specs.Term.{lam, tm_cons}
 use Rattle.iv_hsub.specs.Typing.{cod, types_len, type_at, join, head_type, IsTerm, AreArgs, HasType}
 use Rattle.iv_hsub.specs.Index.{raise, eta}
 use Rattle.iv_hsub.specs.Hsub.{put_head, put, put_all, happ}
-use Rattle.iv_hsub.proofs.Terms.Base.{type_at-here, fun_induction}
-use Rattle.iv_hsub.proofs.Terms.Put.{happ-nil, happ-spine, happ-lam, put-low, put-here, put-high, index_cases, put-term, put-args, happ-good, Has, lam-type}
-use Rattle.iv_hsub.proofs.Terms.Commute.{raised-type}
+use Rattle.iv_hsub.proofs.Theory.{type_at-here, fun_induction}
+use Rattle.iv_hsub.proofs.Theory.{happ-nil, happ-spine, happ-lam, put-low, put-here, put-high, index_cases, put-term, put-args, happ-good, Has, lam-type}
+use Rattle.iv_hsub.proofs.Theory.{raised-type}
 use Rattle.iv_hsub.specs.Retype.{map_typ, retype_head, retype, retype_all}
-use Rattle.iv_hsub.proofs.Terms.Retype.{fun-map, cod-map, raise-retype, retype_all-append, retype-eta}
+use Rattle.iv_hsub.proofs.Theory.{fun-map, cod-map, raise-retype, retype_all-append, retype-eta}
 
 module _ (f : Typ → Typ) where
   -- types go past values of type a at arguments

@@ -14,7 +14,6 @@ use Rattle.iv_term.specs.declared.term.Terms.{Terms}
 use Rattle.iv_term.specs.declared.term.Term.TheBlock.{Spine}
 use Rattle.iv_hsub.specs.Typing.{HasType}
 use Rattle.iv_hsub.specs.Hsub.{happ}
-use Rattle.iv_hsub.specs.Made.{made_happ, made_use, made_inst_head}
 use Rattle.iv_map.specs.NameMap.{look}
 use Rattle.iv_subst.specs.TySubst.{TyMap, put_typ, at, seek}
 use Rattle.iv_subst.proofs.Laws.Entries.{at-seek, drop-at}
@@ -148,12 +147,8 @@ pub at-no_value : (s : Substitution) (x : Name) (a : Typ) → value_of s.1 x ≡
 at-no_value s x a e us = ap (λ o. use_value o (Schematic x (map_typ (by_map s.0) a)) (map_typ (by_map s.0) a) us) e
 
 pub at-value : (s : Substitution) (x : Name) (a : Typ) (v : Term) → value_of s.1 x ≡ Some v
-    → (us : Terms) → (inst_head (values s) (retype_head (by_map s.0) (Schematic x a)) us ≡ happ (put_typ (at s.0) a) v us)
-    × (made_inst_head (values s) (retype_head (by_map s.0) (Schematic x a)) us ≡ made_happ (put_typ (at s.0) a) v us)
-at-value s x a v e us = (
-  ap (λ o. use_value o (Schematic x (map_typ (by_map s.0) a)) (map_typ (by_map s.0) a) us) e ∙ ap (λ b. happ b v us) (map-by s.0 a),
-  ap (λ o. made_use o (map_typ (by_map s.0) a) us) e ∙ ap (λ b. made_happ b v us) (map-by s.0 a),
-)
+    → (us : Terms) → inst_head (values s) (retype_head (by_map s.0) (Schematic x a)) us ≡ happ (put_typ (at s.0) a) v us
+at-value s x a v e us = ap (λ o. use_value o (Schematic x (map_typ (by_map s.0) a)) (map_typ (by_map s.0) a) us) e ∙ ap (λ b. happ b v us) (map-by s.0 a)
 
 pub fits-when : (s : Substitution) (x : Name) (a b : Typ) (v : Term) (r : Bool) → value_of s.1 x ≡ Some v → HasType no_types b v
     → (IsTrue r ↔ (put_typ (at s.0) a ≡ b)) → (IsTrue r ↔ Fits (value_of s.1 x) (map_typ (by_map s.0) a))

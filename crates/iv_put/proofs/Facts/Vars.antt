@@ -13,9 +13,9 @@ use Rattle.iv_hsub.specs.Typing.{cod}
 use Rattle.iv_hsub.specs.Index.{index, raise_head, raise, raise_all, contracts, eta}
 use Rattle.iv_hsub.specs.Hsub.{append, put_head, put, put_all, happ}
 use Rattle.iv_hsub.specs.Hhf.{expand}
-use Rattle.iv_hsub.proofs.Terms.Base.{fun_induction}
-use Rattle.iv_hsub.proofs.Terms.Eta.{eta_cases, EtaCase}
-use Rattle.iv_hsub.proofs.Terms.Put.{happ-nil, happ-spine, happ-lam, happ-stuck, put-low, put-here, put-high, index_cases}
+use Rattle.iv_hsub.proofs.Theory.{fun_induction}
+use Rattle.iv_hsub.proofs.Theory.{eta_cases, EtaCase}
+use Rattle.iv_hsub.proofs.Theory.{happ-nil, happ-spine, happ-lam, happ-stuck, put-low, put-here, put-high, index_cases}
 use Rattle.iv_hsub.specs.Inst.{use_value, inst_head, inst, inst_all, HeadVars, Vars, AllVars}
 
 module _ (P : Head → Typ → Type 0) where
@@ -34,11 +34,11 @@ module _ (P : Head → Typ → Type 0) where
   mutual
     unfolding raise
 
-    vars-raise : (d c : ℕ) (t : Term) → Vars P t → Vars P (raise d c t)
+    pub vars-raise : (d c : ℕ) (t : Term) → Vars P t → Vars P (raise d c t)
     vars-raise d c (lam a b) p = vars-raise d (suc c) b p
     vars-raise d c (Spine h ts) p = (head-raise d c h p.0, all-raise d c ts p.1)
 
-    all-raise : (d c : ℕ) (ts : Terms) → AllVars P ts → AllVars P (raise_all d c ts)
+    pub all-raise : (d c : ℕ) (ts : Terms) → AllVars P ts → AllVars P (raise_all d c ts)
     all-raise d c Nil p = tt
     all-raise d c (tm_cons t ts) p = (vars-raise d c t p.0, all-raise d c ts p.1)
 
@@ -53,7 +53,7 @@ module _ (P : Head → Typ → Type 0) where
     all-raised d c Nil p = tt
     all-raised d c (tm_cons t ts) p = (vars-raised d c t p.0, all-raised d c ts p.1)
 
-  all-append : (ts us : Terms) → AllVars P ts → AllVars P us → AllVars P (append ts us)
+  pub all-append : (ts us : Terms) → AllVars P ts → AllVars P us → AllVars P (append ts us)
   unfolding append
   all-append Nil us p q = q
   all-append (tm_cons t ts) us p q = (p.0, all-append ts us p.1 q)
@@ -63,7 +63,7 @@ module _ (P : Head → Typ → Type 0) where
   all-appended Nil us p = tt
   all-appended (tm_cons t ts) us p = (p.0, all-appended ts us p.1)
 
-  vars-expand : (h : Head) (ts : Terms) → Vars P (expand h ts) → Vars P (Spine h ts)
+  pub vars-expand : (h : Head) (ts : Terms) → Vars P (expand h ts) → Vars P (Spine h ts)
   unfolding expand
   vars-expand h ts p = (head-raised 1 0 h p.0, all-raised 1 0 ts (all-appended (raise_all 1 0 ts) (tm_cons (index 0) Nil) p.1))
 
@@ -75,7 +75,7 @@ module _ (P : Head → Typ → Type 0) where
       go (inr x) = subst (Vars P) (sym x.eta_is) (vars-expand x.head x.args (subst (Vars P) x.body_is p))
 
   -- a value at arguments
-  unfoldable Keeps : (Term → Terms → Term) → Type 0
+  unfoldable pub Keeps : (Term → Terms → Term) → Type 0
   Keeps f = (v : Term) (us : Terms) → Vars P v → AllVars P us → Vars P (f v us)
 
   module _ (f : Term → Terms → Term) (keeps : Keeps f) (v : Term) (pv : Vars P v) where
@@ -95,11 +95,11 @@ module _ (P : Head → Typ → Type 0) where
     mutual
       unfolding put
 
-      vars-put : (k : ℕ) (t : Term) → Vars P t → Vars P (put f v k t)
+      pub vars-put : (k : ℕ) (t : Term) → Vars P t → Vars P (put f v k t)
       vars-put k (lam a b) p = vars-eta a (put f v (suc k) b) (vars-put (suc k) b p)
       vars-put k (Spine h ts) p = vars-put_head k h (put_all f v k ts) p.0 (all-put k ts p.1)
 
-      all-put : (k : ℕ) (ts : Terms) → AllVars P ts → AllVars P (put_all f v k ts)
+      pub all-put : (k : ℕ) (ts : Terms) → AllVars P ts → AllVars P (put_all f v k ts)
       all-put k Nil p = tt
       all-put k (tm_cons t ts) p = (vars-put k t p.0, all-put k ts p.1)
 
@@ -122,7 +122,7 @@ module _ (P : Head → Typ → Type 0) where
           subst (Vars P) (sym (happ-lam a d b u us e)) (k.1 (put (happ d) u 0 b) us (vars-put (happ d) k.0 u q.0 0 b p) q.1)
       go (inr n) = subst (Vars P) (sym (happ-stuck a d b u us n)) p
 
-  vars-happ : (a : Typ) → Keeps (happ a)
+  pub vars-happ : (a : Typ) → Keeps (happ a)
   vars-happ a = fun_induction (λ c. Keeps (happ c)) keeps-step a
 
   -- a variable that has a value, and one that has none

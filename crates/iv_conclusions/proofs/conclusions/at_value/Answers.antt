@@ -12,8 +12,3 @@ pub returns-clause-ok : goal.returns-clause-ok
 returns-clause-ok c =
     let e : c.predicate_type.result.now ≡ fun (type_of no_types c.args.value.now) prop = rw c.predicate_type.ensures (predicate_type-is _ _ c.requires.1) in
     rw (e, c.predicate.ensures) at c.app.ensures.ok
-
-pub returns-clause-number : goal.returns-clause-number
-returns-clause-number c =
-    let e : c.predicate_type.result.now ≡ fun (type_of no_types c.args.value.now) prop = rw c.predicate_type.ensures (predicate_type-is _ _ c.requires.1) in
-    rw (e, c.predicate.ensures) at c.app.ensures.number

@@ -1,27 +1,11 @@
 use Rattle.std.proofs.Common.{refl, sym, subst}
 use Rattle.iv_term.specs.Term.{abs_is, cons_is, tm_cons}
 use Rattle.iv_hsub.specs.Index.{eta}
-use Rattle.iv_hsub.proofs.Terms.Past.{exit, past-left, past-right, weaker}
 use Rattle.iv_hsub.specs.Retype.{retype, retype_all}
 use Rattle.iv_hsub.specs.Inst.{inst, inst_all}
 use Rattle.iv_hsub.specs.Open.{IsShort, AreShort}
-use Rattle.iv_hsub.specs.Made.{made_inst, made_inst_all}
 use Rattle.iv_conclusions.proofs.Facts.{two-put}
 use Rattle.iv_conclusions.proofs.putting.+changed.Goals as goal
-
-pub changed-returns-in_err-body-in-Abs-clause-number : goal.changed-returns-in_err-body-in-Abs-clause-number
-unfolding retype made_inst
-changed-returns-in_err-body-in-Abs-clause-number t c = λ q.
-    let p = rw (c.in-Abs.is, abs_is) at q in
-    exit _ _ _ c.from_residual.ensures.1
-    (λ n. let k = c.in_err-body-in-Abs.ensures.number (subst IsShort (sym c.get.ensures) p.0) n in rw (c.in-Abs.is, abs_is) (rw c.get.ensures at k))
-
-pub changed-returns-in_err-args-in-Spine-clause-number : goal.changed-returns-in_err-args-in-Spine-clause-number
-unfolding retype made_inst
-changed-returns-in_err-args-in-Spine-clause-number t c = λ q.
-    let p = rw c.in-Spine.is at q in
-    exit _ _ _ c.from_residual-in_err-args-in-Spine.ensures.1
-    (λ n. let k = c.in_err-args-in-Spine.ensures.number p n in rw c.in-Spine.is (past-left _ _ k))
 
 pub changed-returns-in_ok-typ-in-Abs-clause-ok : goal.changed-returns-in_ok-typ-in-Abs-clause-ok
 unfolding retype inst
@@ -36,26 +20,6 @@ unfolding retype inst
 changed-returns-in_ok-args-in-Spine-clause-ok t c = λ q.
     let p = rw c.in-Spine.is at q in
     rw (c.in-Spine.is, ← c.in_ok-args-in-Spine.ensures.ok p) c.with_head.ensures.ok
-
-pub changed-returns-in_ok-args-in-Spine-clause-number : goal.changed-returns-in_ok-args-in-Spine-clause-number
-unfolding retype made_inst
-changed-returns-in_ok-args-in-Spine-clause-number t c = λ q.
-    let p = rw c.in-Spine.is at q in
-    weaker _ _ _ (λ h. rw c.in-Spine.is (past-right _ _ h)) (rw (c.in_ok-args-in-Spine.ensures.ok p) at c.with_head.ensures.number)
-
-pub changed_all-returns-in_err-first-in-Cons-clause-number : goal.changed_all-returns-in_err-first-in-Cons-clause-number
-unfolding retype_all made_inst_all
-changed_all-returns-in_err-first-in-Cons-clause-number t c = λ q.
-    let p = rw (c.in-Cons.is, cons_is) at q in
-    exit _ _ _ c.from_residual.ensures.1
-    (λ n. let k = c.in_err-first-in-Cons.ensures.number (subst IsShort (sym c.get.ensures) p.0) n in rw (c.in-Cons.is, cons_is) (past-left _ _ (rw c.get.ensures at k)))
-
-pub changed_all-returns-in_err-more-in-Cons-clause-number : goal.changed_all-returns-in_err-more-in-Cons-clause-number
-unfolding retype_all made_inst_all
-changed_all-returns-in_err-more-in-Cons-clause-number t c = λ q.
-    let p = rw (c.in-Cons.is, cons_is) at q in
-    exit _ _ _ c.from_residual-in_err-more-in-Cons.ensures.1
-    (λ n. let k = c.in_err-more-in-Cons.ensures.number (subst AreShort (sym c.get-in-Cons.ensures) p.1) n in rw (c.in-Cons.is, cons_is) (past-right _ _ (rw c.get-in-Cons.ensures at k)))
 
 pub changed_all-returns-in-Nil-clause-ok : goal.changed_all-returns-in-Nil-clause-ok
 unfolding retype_all inst_all

@@ -1,11 +1,7 @@
 use Rattle.std.proofs.Common.{◌∙◌}
 use Rattle.std.proofs.lemmas.Result.{IfOk-weaker}
-use Rattle.iv_hsub.proofs.Terms.Past.{exit}
 use Rattle.iv_hsub.proofs.Terms.Short.{short-term}
 use Rattle.iv_conclusions.proofs.putting.instanced.Goals as goal
-
-pub returns-in_err-changed-clause-number : goal.returns-in_err-changed-clause-number
-returns-in_err-changed-clause-number c = exit _ _ _ c.from_residual.ensures.1 (c.in_err-changed.ensures.number (short-term c.requires.0 c.args.t.now c.requires.1))
 
 pub returns-in-None-clause-ok : goal.returns-in-None-clause-ok
 returns-in-None-clause-ok c =

@@ -2,12 +2,8 @@ use Rattle.std.proofs.Common.{ap, ◌∙◌}
 use Rattle.std.proofs.lemmas.Result.{IfOk-weaker}
 use Rattle.iv_term.specs.Hyps.{union}
 use Rattle.iv_term.specs.declared.term.Term.TheBlock.{Nil}
-use Rattle.iv_hsub.proofs.Terms.Past.{exit}
 use Rattle.iv_conclusions.proofs.Facts.{short-terms}
 use Rattle.iv_conclusions.proofs.putting.instanced_hyps.Goals as goal
-
-pub returns-in_err-changed_all-clause-number : goal.returns-in_err-changed_all-clause-number
-returns-in_err-changed_all-clause-number c = exit _ _ _ c.from_residual.ensures.1 (c.in_err-changed_all.ensures.number (short-terms c.args.hs.now c.requires))
 
 pub returns-in-None-clause-ok : goal.returns-in-None-clause-ok
 returns-in-None-clause-ok c =

@@ -17,7 +17,7 @@ pub lower_all-returns-in-Nil-clause-ok : goal.lower_all-returns-in-Nil-clause-ok
 unfolding lower_all
 lower_all-returns-in-Nil-clause-ok t c = λ d h. rw c.in-Nil.is refl
 
-pub lower_all-returns-in_ok-more-in-Cons-clause-ok : goal.lower_all-returns-in_ok-more-in-Cons-clause-ok
+pub lower_all-returns-in_ok-first-in-Cons-clause-ok : goal.lower_all-returns-in_ok-first-in-Cons-clause-ok
 unfolding lower_all
-lower_all-returns-in_ok-more-in-Cons-clause-ok t c =
+lower_all-returns-in_ok-first-in-Cons-clause-ok t c =
     λ d h. rw (c.in-Cons.is, cons_is, ← c.get.ensures, ← c.get-in-Cons.ensures, ← c.in_ok-first-in-Cons.ensures.ok d h, ← c.in_ok-more-in-Cons.ensures.ok d h) c.cons.ensures.ok

@@ -1,7 +1,5 @@
 use Rattle.iv_term.specs.Term.{abs_is, cons_is}
 use Rattle.iv_hsub.specs.Hhf.{push, push_args, push_under}
-use Rattle.iv_hsub.specs.Made.{made_push, made_push_args, made_push_under}
-use Rattle.iv_hsub.proofs.Terms.Past.{exit, past-left, past-right}
 use Rattle.iv_hsub.proofs.harrop.+push.Goals as goal
 
 pub push-returns-in-Abs-clause-ok : goal.push-returns-in-Abs-clause-ok
@@ -12,10 +10,6 @@ pub push-returns-in-Spine-clause-ok : goal.push-returns-in-Spine-clause-ok
 unfolding push
 push-returns-in-Spine-clause-ok t c = rw c.in-Spine.is c.push_args.ensures.ok
 
-pub push-returns-in-Spine-clause-number : goal.push-returns-in-Spine-clause-number
-unfolding made_push
-push-returns-in-Spine-clause-number t c = rw c.in-Spine.is c.push_args.ensures.number
-
 pub push_args-returns-in-Nil-clause-ok : goal.push_args-returns-in-Nil-clause-ok
 unfolding push_args
 push_args-returns-in-Nil-clause-ok t c = rw c.in-Nil.is (rw c.in-Nil.is at c.plain_imp.ensures.ok)
@@ -24,21 +18,6 @@ pub push_args-returns-then-not-is_all_alone-clause-ok : goal.push_args-returns-t
 unfolding push_args
 push_args-returns-then-not-is_all_alone-clause-ok t c =
     rw (c.in-Cons.is, cons_is, ← c.get.ensures, ← c.is_all_alone.ensures, c.if-not-is_all_alone.true) (rw (c.in-Cons.is, cons_is, ← c.get.ensures) at c.plain_imp-then-not-is_all_alone.ensures.ok)
-
-pub push_args-returns-in_err-up-in-Cons-clause-number : goal.push_args-returns-in_err-up-in-Cons-clause-number
-unfolding made_push_args
-push_args-returns-in_err-up-in-Cons-clause-number t c =
-    exit _ _ _ c.from_residual.ensures.1
-    (λ q. let h = c.in_err-up-in-Cons.ensures.number q in
-    rw (c.in-Cons.is, cons_is, ← c.get.ensures, ← c.is_all_alone.ensures, c.if-not-is_all_alone.false) (past-left _ _ h))
-
-pub push_args-returns-in_err-body-in-Cons-clause-number : goal.push_args-returns-in_err-body-in-Cons-clause-number
-unfolding made_push_args
-push_args-returns-in_err-body-in-Cons-clause-number t c =
-    exit _ _ _ c.from_residual-in_err-body-in-Cons.ensures.1
-    (λ q. let h = c.in_err-body-in-Cons.ensures.number q in
-    rw (c.in-Cons.is, cons_is, ← c.get.ensures, ← c.is_all_alone.ensures, c.if-not-is_all_alone.false)
-    (past-right _ _ (rw (c.in_ok-up-in-Cons.ensures.ok, c.get-in-Cons.ensures) at h)))
 
 pub push_args-returns-in_ok-body-in-Cons-clause-ok : goal.push_args-returns-in_ok-body-in-Cons-clause-ok
 unfolding push_args
@@ -50,14 +29,6 @@ pub push_under-returns-in-Abs-clause-ok : goal.push_under-returns-in-Abs-clause-
 unfolding push_under
 push_under-returns-in-Abs-clause-ok t c = rw (c.in-Abs.is, abs_is, ← c.get.ensures) c.push.ensures.ok
 
-pub push_under-returns-in-Abs-clause-number : goal.push_under-returns-in-Abs-clause-number
-unfolding made_push_under
-push_under-returns-in-Abs-clause-number t c = rw (c.in-Abs.is, abs_is, ← c.get.ensures) c.push.ensures.number
-
 pub push_under-returns-in-Spine-clause-ok : goal.push_under-returns-in-Spine-clause-ok
 unfolding push_under
 push_under-returns-in-Spine-clause-ok t c = rw c.in-Spine.is c.push_expanded.ensures.ok
-
-pub push_under-returns-in-Spine-clause-number : goal.push_under-returns-in-Spine-clause-number
-unfolding made_push_under
-push_under-returns-in-Spine-clause-number t c = rw c.in-Spine.is c.push_expanded.ensures.number

@@ -1,4 +1,4 @@
-use Rattle.iv_hsub.proofs.Terms.Made.{takes_when, takes_not}
+use Rattle.iv_hsub.proofs.Terms.Steps.{takes_when, takes_not}
 use Rattle.iv_hsub.proofs.substitution.takes.Goals as goal
 
 pub returns-then-is_fun : goal.returns-then-is_fun

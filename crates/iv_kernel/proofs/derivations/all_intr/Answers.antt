@@ -1,5 +1,6 @@
+use Rattle.std.proofs.lemmas.Result.{IfOk-at_ok}
 use Rattle.iv_rules.specs.Derivation.{all_intr_is}
 use Rattle.iv_kernel.proofs.derivations.all_intr.Goals as goal
 
 pub returns-clause-ok : goal.returns-clause-ok
-returns-clause-ok c = rw (c.in_ok-copy.ensures.ok, c.in_ok-copy-2.ensures.ok, c.in_ok-share.ensures) (all_intr_is _ _ _)
+returns-clause-ok c = rw (IfOk-at_ok _ (IfOk-at_ok _ c.in_ok-name.ensures.first c.both-variable.ensures.first) c.copy.ensures.ok, IfOk-at_ok _ (IfOk-at_ok _ c.in_ok-name.ensures.first c.both-variable.ensures.second) c.copy-2.ensures.ok, IfOk-at_ok _ c.in_ok-name.ensures.second c.shared.ensures.ok) (all_intr_is _ _ _)

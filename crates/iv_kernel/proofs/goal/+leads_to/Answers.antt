@@ -1,6 +1,5 @@
 use Rattle.std.proofs.Common.{◌-◌, arith}
-use Rattle.iv_hsub.proofs.Terms.Past.{exit, weaker}
-use Rattle.iv_kernel.proofs.Goals.{leads-now, leads-later, leads-no, leads-unformed, forms-first, forms-later}
+use Rattle.iv_kernel.proofs.Goals.{leads-now, leads-later, leads-no, leads-unformed}
 use Rattle.iv_kernel.proofs.goal.+leads_to.Goals as goal
 
 pub returns-then-count-eq0-clause-ok : goal.returns-then-count-eq0-clause-ok
@@ -14,15 +13,7 @@ pub returns-then-not-formed-clause-ok : goal.returns-then-not-formed-clause-ok
 returns-then-not-formed-clause-ok t c =
     leads-unformed c.args.count (c.args.count - 1) _ _ _ (omega arith) c.if-not-formed.true (rw c.antecedent.ensures at c.in_ok-formed.ensures.ok)
 
-pub returns-in_err-formed-clause-number : goal.returns-in_err-formed-clause-number
-returns-in_err-formed-clause-number t c =
-    exit _ _ _ c.from_residual.ensures.1 (λ q. forms-first c.args.count (c.args.count - 1) _ (omega arith) (rw c.antecedent.ensures at (c.in_err-formed.ensures.number q)))
-
 pub returns-clause-ok : goal.returns-clause-ok
 returns-clause-ok t c =
     leads-later c.args.count (c.args.count - 1) _ _ _ (omega arith) (c.is_implication.ensures.0 c.if-not-is_implication.false)
     ((rw c.antecedent.ensures at c.in_ok-formed.ensures.ok).0 c.if-not-formed.false) (rw c.consequent.ensures at c.leads_to.ensures.ok)
-
-pub returns-clause-number : goal.returns-clause-number
-returns-clause-number t c =
-    weaker _ _ _ (forms-later c.args.count (c.args.count - 1) _ (omega arith)) (rw c.consequent.ensures at c.leads_to.ensures.number)

@@ -1,5 +1,5 @@
 use Rattle.std.proofs.Common.{rules, arith}
-use Rattle.iv_readmethod.proofs.Joins.{joins_next, joins_refused, lists_next, inside_more, stop_exit}
+use Rattle.iv_readmethod.proofs.Joins.{joins_joined, joins_refused, lists_next, inside_more, stop_exit}
 use Rattle.iv_readmethod.proofs.methods.+method.Goals as goal
 
 pub args-loop-step-preserved : goal.args-loop-step-preserved
@@ -16,9 +16,9 @@ inside-returns-clause-err t c = rw (inside_more c.args.left c.args.tokens.now (o
 
 pub linked-loop-step-preserved : goal.linked-loop-step-preserved
 linked-loop-step-preserved t c =
-    joins_next _ _ _ _ c.in_ok-next.next _ _ _ _ c.in_ok-next.after.now _ _ c.loop-step.invariant c.loop-step-test.true (search rules) (rw (← c.behind.ensures) c.in_ok-next.ensures.ok) c.in_ok-both.ensures.ok
+    joins_joined _ _ _ _ _ _ _ _ c.in_ok-both.after.now _ c.loop-step.invariant c.loop-step-test.true (search rules) (rw (← c.behind.ensures) c.in_ok-both.ensures.ok)
 
 pub linked-returns-in_err-both-clause-err : goal.linked-returns-in_err-both-clause-err
 linked-returns-in_err-both-clause-err t c =
     stop_exit _ _ _ c.from_residual-in_err-both.ensures.1
-    (rw c.loop-step.invariant (joins_refused _ _ _ _ c.in_ok-next.next _ _ _ c.in_ok-next.after.now _ c.loop-step-test.true (search rules) (rw (← c.behind.ensures) c.in_ok-next.ensures.ok) c.in_err-both.ensures.err))
+    (rw c.loop-step.invariant (joins_refused _ _ _ _ _ _ _ _ c.loop-step-test.true (search rules) (rw (← c.behind.ensures) c.in_err-both.ensures.err)))

@@ -7,43 +7,55 @@ use Rattle.iv_readmethod.proofs.Joins.{rank}
 use Rattle.iv_readmethod.proofs.methods.+method.Given as goal
 
 abbrev pub decreases-inside : goal.decreases-inside
-decreases-inside l = l.left * 16
+decreases-inside l = l.left * 20
 
 abbrev pub decreases-parens : goal.decreases-parens
-decreases-parens l = l.left * 16 + 1
+decreases-parens l = l.left * 20 + 1
+
+abbrev pub decreases-case_method : goal.decreases-case_method
+decreases-case_method l = l.left * 20 + 1
+
+abbrev pub decreases-case_names : goal.decreases-case_names
+decreases-case_names l = l.left * 20 + 2
 
 abbrev pub decreases-case : goal.decreases-case
-decreases-case l = l.left * 16 + 1
+decreases-case l = l.left * 20 + 3
 
 abbrev pub decreases-core : goal.decreases-core
-decreases-core l = l.left * 16 + 2
+decreases-core l = l.left * 20 + 2
 
 abbrev pub decreases-arg : goal.decreases-arg
-decreases-arg l = l.left * 16 + 2
+decreases-arg l = l.left * 20 + 2
 
 abbrev pub decreases-more_cases : goal.decreases-more_cases
-decreases-more_cases l = l.left * 16 + 2
+decreases-more_cases l = l.left * 20 + 4
+
+abbrev pub decreases-cases : goal.decreases-cases
+decreases-cases l = l.left * 20 + 5
 
 abbrev pub decreases-method : goal.decreases-method
-decreases-method l = l.left * 16 + 3
+decreases-method l = l.left * 20 + 3
 
 abbrev pub decreases-args : goal.decreases-args
-decreases-args l = l.left * 16 + 3
+decreases-args l = l.left * 20 + 3
 
 abbrev pub decreases-call : goal.decreases-call
-decreases-call l = l.left * 16 + 4
+decreases-call l = l.left * 20 + 4
 
 abbrev pub decreases-match_ : goal.decreases-match_
-decreases-match_ l = l.left * 16 + 4
+decreases-match_ l = l.left * 20 + 6
 
 abbrev pub decreases-item : goal.decreases-item
-decreases-item l = l.left * 16 + 5
+decreases-item l = l.left * 20 + 7
 
 abbrev pub decreases-operand : goal.decreases-operand
-decreases-operand l = l.left * 16 + (6 + 2 * rank l.join)
+decreases-operand l = l.left * 20 + (8 + 3 * rank l.join)
+
+abbrev pub decreases-with_next : goal.decreases-with_next
+decreases-with_next l = l.left * 20 + (9 + 3 * rank l.join)
 
 abbrev pub decreases-linked : goal.decreases-linked
-decreases-linked l = l.left * 16 + (7 + 2 * rank l.join)
+decreases-linked l = l.left * 20 + (10 + 3 * rank l.join)
 
 abbrev pub invariant-args-loop-step : goal.invariant-args-loop-step
 invariant-args-loop-step l =

@@ -3,24 +3,20 @@ use Rattle.std.proofs.lemmas.Result.{IfOk-weaker}
 use Rattle.iv_hsub.specs.Hhf.{hhf}
 use Rattle.iv_run.specs.Statement.{statement_of, free_var}
 use Rattle.iv_run.proofs.Forms.{statement-prop}
-use Rattle.iv_run.proofs.ClaimSteps.{statement-form, statement-past, axioms-start}
-use Rattle.iv_run.proofs.Results.{last}
+use Rattle.iv_run.proofs.ClaimSteps.{statement-form, axioms-start}
 use Rattle.iv_run.proofs.claim.goal_of.Goals as goal
 
-pub init-requires : goal.init-requires
-init-requires c = rw c.in_ok-claim.ensures.ok (statement-prop c.parts_of_propositions.ensures.imp _ _)
+pub init-goal-requires : goal.init-goal-requires
+init-goal-requires c = rw c.in_ok-claim.ensures.ok (statement-prop c.parts_of_propositions.ensures.imp _ _)
 
 pub returns-clause-claim : goal.returns-clause-claim
-returns-clause-claim c = rw (c.in_ok-claim.ensures.ok, ← c.split.ensures) at c.init.ensures.claim
+returns-clause-claim c = rw (c.in_ok-claim.ensures.ok, ← c.split.ensures) at c.init-goal.ensures.claim
 
 pub returns-clause-subgoals : goal.returns-clause-subgoals
 returns-clause-subgoals c =
     let is : hhf c.in_ok-claim.claim ≡ statement_of free_var c.args.parts.now =
     statement-form _ _ _ c.in_ok-claim.ensures.ok ∙ c.in_ok-claim.ensures.ok ∙ ap (statement_of free_var) (sym c.split.ensures) in
-    IfOk-weaker c.init.result _ _ (λ g q. q ∙ ap (λ t. t ∷ []) is) c.init.ensures.subgoals
+    IfOk-weaker c.init-goal.result _ _ (λ g q. q ∙ ap (λ t. t ∷ []) is) c.init-goal.ensures.subgoals
 
 pub returns-clause-axioms : goal.returns-clause-axioms
-returns-clause-axioms c = IfOk-weaker c.init.result _ _ (λ g d. axioms-start _ _ _ _ d) c.init.ensures.derivation
-
-pub returns-clause-memory : goal.returns-clause-memory
-returns-clause-memory c = last c.init.result _ (statement-past _ _ _ c.in_ok-claim.ensures.ok) c.init.ensures.number
+returns-clause-axioms c = IfOk-weaker c.init-goal.result _ _ (λ g d. axioms-start _ _ _ _ d) c.init-goal.ensures.derivation

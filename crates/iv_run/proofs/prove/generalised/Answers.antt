@@ -1,7 +1,6 @@
 use Rattle.std.proofs.lemmas.Result.{IfOk-weaker}
 use Rattle.iv_rules.specs.Rules.{axioms_of}
-use Rattle.iv_run.proofs.Generalising.{can-generalise, instanced-statement, instanced-nothing, none-past}
-use Rattle.iv_run.proofs.Results.{last}
+use Rattle.iv_run.proofs.Generalising.{can-generalise, instanced-statement, instanced-nothing}
 use Rattle.iv_run.proofs.prove.generalised.Goals as goal
 
 pub inst-requires : goal.inst-requires
@@ -16,7 +15,3 @@ returns-clause-hyps c = rw (c.requires.hyps, instanced-nothing) at c.inst.ensure
 pub returns-clause-axioms : goal.returns-clause-axioms
 unfolding axioms_of
 returns-clause-axioms c = IfOk-weaker c.inst.result _ _ (λ r q. rw q) c.inst.ensures.derivation
-
-pub returns-clause-memory : goal.returns-clause-memory
-returns-clause-memory c =
-    last c.inst.result _ (none-past _ _ _ c.args.premises.now c.args.conclusion.now c.in_ok-instance.ensures.ok c.requires.hyps c.requires.prop) c.inst.ensures.number

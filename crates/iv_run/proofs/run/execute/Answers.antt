@@ -14,10 +14,10 @@ pub returns-in_err-reported-clause-finished : goal.returns-in_err-reported-claus
 returns-in_err-reported-clause-finished g c =
     front-stopped _ _ c.args.commands.now c.loop-command.command-index c.command-item.result _ (omega arith) c.command-item.is c.loop-command.invariant.state c.in_err-reported.ensures.stopped
 
-pub returns-in_err-write_all-clause-front : goal.returns-in_err-write_all-clause-front
-returns-in_err-write_all-clause-front g c = λ w h.
+pub returns-in_err-written-clause-front : goal.returns-in_err-written-clause-front
+returns-in_err-written-clause-front g c = λ w h.
     let t = c.loop-command.invariant.written w h in
-    let part = c.in_err-write_all.ensures.part in
+    let part = c.in_err-written.ensures.part in
     let bytes = c.as_slice.ensures.value ∙ c.in_ok-reported.ensures.bytes in
     let lines = lines_of c.args.document.now c.command-item.result (machine_of c.loop-command.vm) (executed c.command-item.result (machine_of c.loop-command.vm)) in
     let m = machine_of c.loop-command.vm in (
@@ -30,8 +30,8 @@ returns-in_err-write_all-clause-front g c = λ w h.
       ),
     )
 
-pub returns-in_err-write_all-clause-finished : goal.returns-in_err-write_all-clause-finished
-returns-in_err-write_all-clause-finished g c =
+pub returns-in_err-written-clause-finished : goal.returns-in_err-written-clause-finished
+returns-in_err-written-clause-finished g c =
     front-stopped _ _ c.args.commands.now c.loop-command.command-index c.command-item.result _ (omega arith) c.command-item.is c.loop-command.invariant.state (inr c.in_ok-reported.ensures.state)
 
 pub loop-command-preserved : goal.loop-command-preserved
@@ -61,12 +61,12 @@ loop-command-preserved g c =
           let t = c.loop-command.invariant.written w h in (
             t.0 ++ lines,
             (
-              c.in_ok-write_all.ensures.whole (w ++ encode_utf8_all t.0) t.1.0
+              c.in_ok-written.ensures.whole (w ++ encode_utf8_all t.0) t.1.0
                   ∙ ap Some (told-more w t.0 lines c.as_slice.result.now (c.as_slice.ensures.value ∙ c.in_ok-reported.ensures.bytes)),
               report-more c.args.document.now m (machine_of c.step.new.vm) c.args.commands.now i item t.0 _ lt c.command-item.is t.1.1 state,
             ),
           );
-      faults = c.in_ok-write_all.ensures.faults_stay ∙ c.loop-command.invariant.faults;
+      faults = c.in_ok-written.ensures.faults_stay ∙ c.loop-command.invariant.faults;
     }
 
 pub returns-clause-accepted : goal.returns-clause-accepted

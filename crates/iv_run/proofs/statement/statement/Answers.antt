@@ -1,4 +1,4 @@
-use Rattle.std.proofs.Common.{length, sym, ◌∙◌, arith}
+use Rattle.std.proofs.Common.{length, sym, ap, ◌∙◌, arith}
 use Rattle.std.proofs.lemmas.List.{drop_all}
 use Rattle.iv_term.specs.Term.{imp}
 use Rattle.iv_run.specs.Statement.{statement_of, free_var}
@@ -15,6 +15,6 @@ premises-init c = record {
 pub premises-preserved : goal.premises-preserved
 premises-preserved c = record {
   within = omega arith;
-  built = c.in_ok-built-2.ensures.ok ∙ (λ i. imp (c.in_ok-premise.ensures.ok i) (c.premises.invariant.built i))
+  built = c.in_ok-built-2.ensures.ok ∙ ap (imp (free_var c.index-premises-at.result)) c.premises.invariant.built
       ∙ sym (statement-more free_var c.args.premises.now c.args.conclusion.now c.index-premises-at.result c.premises.at _ c.premises.invariant.within (omega arith) c.index-premises-at.is);
 }

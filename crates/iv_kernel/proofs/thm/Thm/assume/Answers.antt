@@ -1,5 +1,7 @@
+use Rattle.iv_kernel.proofs.Results.{shown-by}
 use Rattle.iv_kernel.proofs.thm.Thm.assume.Goals as goal
 
 pub by-requires : goal.by-requires
 by-requires c =
-    rw (c.in_ok-rule.ensures.ok, c.in_ok-hyps.ensures.ok, c.in_ok-concluded.ensures.ok) (c.propositions_are_shown.ensures.assume _ c.requires)
+    shown-by _ _ _ _ _ _ c.assume-rule.ensures.ok c.only-hyps.ensures.ok c.copy-concluded.ensures.ok
+    (c.propositions_are_shown.ensures.assume _ c.requires)

@@ -1,17 +1,12 @@
 use Rattle.std.proofs.Common.{◌≤◌, length, arith}
 use Rattle.iv_term.specs.declared.typ.Typ.TheBlock.{Nil}
-use Rattle.iv_hsub.proofs.Terms.Past.{exit}
 use Rattle.iv_subst.specs.TySubst.{put_typs}
 use Rattle.iv_put.proofs.Facts.Apart.{under-new}
-use Rattle.iv_put.proofs.Facts.Loops.{under-begun, under-can, under-past, under-on, under-end}
+use Rattle.iv_put.proofs.Facts.Loops.{under-begun, under-can, under-on, under-end}
 use Rattle.iv_put.proofs.substitution.Subst.add_under.Goals as goal
 
 pub loop-i-init : goal.loop-i-init
 loop-i-init c = under-begun _ _ _ c.requires.fits
-
-pub returns-in_err-value-clause-number : goal.returns-in_err-value-clause-number
-returns-in_err-value-clause-number c =
-    exit _ _ _ c.from_residual.ensures.1 (λ n. under-past _ _ _ _ _ _ _ c.loop-i.invariant c.entry.ensures.same (c.in_err-value.ensures.number n))
 
 pub push-requires-clause-new : goal.push-requires-clause-new
 push-requires-clause-new c = under-new _ _ _ _ _ _ _ _ c.loop-i.invariant c.entry.ensures.same c.requires.apart c.in_ok-copy.ensures.ok

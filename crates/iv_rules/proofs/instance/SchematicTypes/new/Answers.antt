@@ -3,4 +3,4 @@ use Rattle.iv_rules.proofs.instance.SchematicTypes.new.Goals as goal
 
 pub invariant_of-result : goal.invariant_of-result
 unfolding IsDistinct
-invariant_of-result c = rw c.new.ensures.items tt
+invariant_of-result c = rw c.new.ensures tt

@@ -5,7 +5,7 @@ use Rattle.iv_rules.proofs.Lists.{look-here, look-on, look-end}
 use Rattle.iv_rules.proofs.instance.VarTerms.get.Goals as goal
 
 pub loop-entry-init : goal.loop-entry-init
-loop-entry-init c = rw c.as_slice-entry-items.ensures.value (ap (λ s. lookup (λ k. same_var k (c.args.name.now, c.args.typ.now)) s) (sym c.self.view_is))
+loop-entry-init c = rw c.as_slice-entry-items.ensures (ap (λ s. lookup (λ k. same_var k (c.args.name.now, c.args.typ.now)) s) (sym c.self.view_is))
 
 pub returns-then-is_var : goal.returns-then-is_var
 returns-then-is_var c =

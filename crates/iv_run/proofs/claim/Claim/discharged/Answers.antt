@@ -8,8 +8,8 @@ use Rattle.iv_run.proofs.Discharged.{open_hyps-solved}
 use Rattle.iv_run.proofs.ClaimSteps.{elim-fits, conclusion-fits, no-premises, union-none, axioms-elim}
 use Rattle.iv_run.proofs.claim.Claim.discharged.Goals as goal
 
-pub imp_elim-requires : goal.imp_elim-requires
-imp_elim-requires c =
+pub imp_elim-thm-requires : goal.imp_elim-thm-requires
+imp_elim-thm-requires c =
     rw c.thm.ensures.same
     (elim-fits _ _ _ _ c.thm.ensures.prop c.requires.open.subgoals
     (c.in_ok-solved.ensures.prop ∙ ap (statement_of free_var) (sym c.split.ensures) ∙ sym c.requires.open.statement))

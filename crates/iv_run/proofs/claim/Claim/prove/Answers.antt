@@ -9,8 +9,8 @@ returns-then-not-is_solved-clause-solved c = ap is_solved c.split.ensures ∙ so
 pub discharged-requires-clause-solved : goal.discharged-requires-clause-solved
 discharged-requires-clause-solved c = ap is_solved c.split.ensures ∙ solved-any _ _ ∙ sym c.is_solved.ensures ∙ c.if-not-is_solved.false
 
-pub generalised-requires-clause-prop : goal.generalised-requires-clause-prop
-generalised-requires-clause-prop c = c.in_ok-thm.ensures.prop ∙ ap (statement_of free_var) c.split.ensures
+pub generalised-proved-requires-clause-prop : goal.generalised-proved-requires-clause-prop
+generalised-proved-requires-clause-prop c = c.in_ok-thm.ensures.prop ∙ ap (statement_of free_var) c.split.ensures
 
 pub returns-clause-solved : goal.returns-clause-solved
 returns-clause-solved c = ap is_solved c.split.ensures ∙ solved-any _ _ ∙ sym c.is_solved.ensures ∙ c.if-not-is_solved.false

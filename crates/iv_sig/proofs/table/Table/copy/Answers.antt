@@ -1,15 +1,14 @@
-use Rattle.std.proofs.Common.{◌≤◌, length, arith}
+use Rattle.std.proofs.Common.{◌≤◌, length, arith, refl}
 use Rattle.iv_sig.proofs.Entries.{copied-name, copied-on, copied-end}
 use Rattle.iv_sig.proofs.table.Table.copy.Goals as goal
 
-pub push-requires : goal.push-requires
-push-requires g c =
-    copied-name c.loop-i.copy c.args.self.now c.loop-i.i _ _ c.at.ensures c.loop-i.invariant c.in_ok-copy.ensures.ok c.names_differ.ensures
+pub push_copy-requires : goal.push_copy-requires
+push_copy-requires g c =
+    copied-name c.loop-i.copy c.args.self.now c.loop-i.i _ _ c.at.ensures c.loop-i.invariant refl c.names_differ.ensures
 
 pub loop-i-preserved : goal.loop-i-preserved
 loop-i-preserved g c =
-    let grown = rw (c.in_ok-copy.ensures.ok, c.in_ok-copied.ensures.ok) at c.in_ok-push.ensures.ok in
-    copied-on c.loop-i.copy c.push.new.self c.args.self.now c.loop-i.i _ c.at.ensures c.loop-i.invariant grown
+    copied-on c.loop-i.copy c.push_copy.new.self c.args.self.now c.loop-i.i _ c.at.ensures c.loop-i.invariant c.in_ok-push_copy.ensures.ok
 
 pub returns-clause-ok : goal.returns-clause-ok
 returns-clause-ok g c =
