@@ -7,3 +7,4 @@ pub mod Heads
 pub mod Pairs
 pub mod Going
 pub mod Occurs
+pub mod Stays

@@ -1,0 +1,4 @@
+pub mod Abstracting
+pub mod Spines
+pub mod Forms
+pub mod Among
