@@ -12,3 +12,4 @@ pub mod TypeStable
 pub mod Stable
 pub mod Examples
 pub mod Stack
+pub mod TypeStack

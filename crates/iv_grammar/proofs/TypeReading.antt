@@ -91,7 +91,7 @@ stepped t z tokens mid after n l goes less f = by_fuel l.fuel l.reads l.enough
     by_fuel zero e h = absurd (omega (arith, less, h))
     by_fuel (suc m) e h = record { fuel = m; reads = e ∙ (going m t mid goes ∙ f m h); enough = omega (arith, less, h) }
 
-more_closes : (run : Reader) (ts : Ty) (c : List ℕ) (after : List Token) → is_more ts ≡ true → closed run ts (ident c ∷ after) ≡ run (got (tuple ts c)) after
+pub more_closes : (run : Reader) (ts : Ty) (c : List ℕ) (after : List Token) → is_more ts ≡ true → closed run ts (ident c ∷ after) ≡ run (got (tuple ts c)) after
 more_closes run (more ts t) c after h = refl
 more_closes run (var x) c after h = cc
 more_closes run (con x) c after h = cc

@@ -1,8 +1,8 @@
 //! The inner grammar: the tokens of the texts of types and terms, and their trees.
 //!
-//! A [`Symbols`] has the delimiters, in all their spellings, and the declared symbols, each with a [`Sign`]. [`inner_tokens`] cuts a text by longest match into tokens: words
-//! (identifiers, long names, variables, type variables) and signs (what a symbol is to the grammar). A text in which no token
-//! begins somewhere has none. There is one cut.
+//! A [`Symbols`] has the delimiters, in all their spellings, and the declared symbols, each with a [`Sign`]: what it is to the
+//! grammar, with its priorities. [`inner_tokens`] cuts a text by longest match into tokens: words (identifiers, long names,
+//! variables, type variables) and signs. A text in which no token begins somewhere has none. There is one cut.
 //!
 //! Which trees belong to a list of tokens stands in `specs/TypeTree` and `specs/Tree`: priorities, and that each right place
 //! holds a tree that takes as many tokens as it can. [`laws`] says that at most one tree does.
