@@ -13,3 +13,6 @@ pub mod Stable
 pub mod Examples
 pub mod Stack
 pub mod TypeStack
+mod TypeNodes
+mod TypeSteps
+mod TypeDecides

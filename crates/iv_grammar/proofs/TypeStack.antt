@@ -6,32 +6,11 @@ use Rattle.iv_grammar.specs.declared.sign.Sign.TheVariants as sign
 use Rattle.iv_grammar.specs.declared.words.Word.TheVariants as word
 use Rattle.iv_grammar.specs.declared.cutting.Token.{Token}
 use Rattle.iv_grammar.specs.declared.cutting.Token.TheVariants as token
-use Rattle.iv_grammar.specs.TypeTree.{Ty, var, con, paren, applied, round, square, more, tuple, arrow, arrows, ident, is_more, type_goes_on}
+use Rattle.iv_grammar.specs.TypeTree.{Ty, var, con, paren, applied, round, tuple, ident, is_more, type_goes_on}
+pub use Rattle.iv_grammar.specs.TypeReader.{Frame, in_round, in_square, with_types, with_left, with_arguments, make, goes, resume}
 use Rattle.iv_grammar.proofs.TypeReading.{begin, got, Read, Reader, then_read, grown, stop, read, more_closes}
 use Rattle.iv_grammar.proofs.TypeStable.{steps, grows}
 use Rattle.iv_grammar.proofs.Reading.{choose_first, choose_second}
-
--- what is to be done with an operand
-pub data Frame : Type 0 where
-  in_round : Frame
-  in_square : Frame
-  with_types : Ty → Frame
-  with_left : Ty → Frame
-  with_arguments : Ty → Frame
-
-abbrev pub make : Frame → Ty → Ty
-make in_round u = round u
-make in_square u = square u
-make (with_types ts) u = more ts u
-make (with_left t) u = arrow t u
-make (with_arguments ts) u = arrows ts u
-
-abbrev pub goes : Reader → Frame → Ty → List Token → Read
-goes run f u left = run (got (make f u)) left
-
-abbrev pub resume : Reader → List Frame → Read → Read
-resume run [] r = r
-resume run (f ∷ fs) r = then_read (resume run fs r) (goes run f)
 
 -- a frame is pushed, and popped
 pub pushed : (run : Reader) (fs : List Frame) (f : Frame) (r : Read) → resume run (fs ++ f ∷ []) r ≡ resume run fs (then_read r (goes run f))

@@ -4,5 +4,7 @@ pub mod Symbol
 pub mod Chain
 pub mod Cut
 pub mod TypeTree
+pub mod TypeReader
+pub mod TypeNode
 pub mod Tree
 pub mod Delimiter

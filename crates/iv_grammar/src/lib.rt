@@ -5,7 +5,8 @@
 //! variables, type variables) and signs. A text in which no token begins somewhere has none. There is one cut.
 //!
 //! Which trees belong to a list of tokens stands in `specs/TypeTree` and `specs/Tree`: priorities, and that each right place
-//! holds a tree that takes as many tokens as it can. [`laws`] says that at most one tree does.
+//! holds a tree that takes as many tokens as it can. [`laws`] says that at most one tree does. [`parse_type`] gives that of a
+//! type, as nodes in a vector ([`TypeTree`]); the parser's stack is a vector too, so texts of any nesting are answered.
 #![tactic(auto)]
 
 pub mod cutting;
@@ -14,9 +15,14 @@ pub mod laws;
 pub mod priorities;
 pub mod sign;
 pub mod symbols;
+pub mod type_nodes;
+pub mod type_steps;
+pub mod types;
 pub mod words;
 
 pub use cutting::{NoTokens, Token, inner_tokens};
 pub use sign::Sign;
 pub use symbols::Symbols;
+pub use type_nodes::TypeForm;
+pub use types::{NoParse, TypeTree, parse_type};
 pub use words::Word;
