@@ -1,0 +1,4 @@
+pub mod Pairs
+pub mod Simplify
+pub mod Values
+pub mod Unifiers
