@@ -6,3 +6,6 @@ pub mod Bodies
 pub mod Simple
 pub mod Readied
 pub mod Bind
+pub mod Assign
+pub mod Choose
+pub mod Flexible

@@ -56,7 +56,7 @@ stays-long D a bs t u n p q v w = record {
   back = λ e E l a. a;
 }
 
-function-name : (c : List ℕ) (a b : Typ) → is_function c ≡ true → Con c (ty_cons a (ty_cons b no_types)) ≡ fun a b
+pub function-name : (c : List ℕ) (a b : Typ) → is_function c ≡ true → Con c (ty_cons a (ty_cons b no_types)) ≡ fun a b
 function-name c a b h = ap (λ z. Con z (ty_cons a (ty_cons b no_types))) (same_text-true c (codes "fun") h)
 
 name-of : Typ → List ℕ
