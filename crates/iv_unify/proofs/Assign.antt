@@ -1,5 +1,5 @@
 -- Assignment: the value of a variable at distinct bound variables makes both sides equal.
-use Rattle.std.proofs.Common.{◌≡◌, ℕ, ◌+◌, ◌<◌, ◌≤◌, Bool, true, false, not, ◌&&◌, ◌||◌, nat_eq, if◌then◌else◌, List, [], ◌∷◌, ◌++◌, Option, Some, None, eqb-true, refl, sym, ◌∙◌, ap, subst, arith}
+use Rattle.std.proofs.Common.{◌≡◌, ℕ, Bool, true, false, not, ◌&&◌, nat_eq, if◌then◌else◌, List, [], ◌∷◌, ◌++◌, Option, Some, None, eqb-true, refl, sym, ◌∙◌, ap, subst, arith}
 use Rattle.std.specs.List.{list_any}
 use Rattle.std.proofs.lemmas.Bool.{and_parts, or_parts}
 use Rattle.std.proofs.lemmas.List.Folds.{list_any-append}
@@ -14,12 +14,12 @@ use Rattle.iv_term.specs.declared.term.Head.TheVariants.{Const, Free, Schematic,
 use Rattle.iv_term.specs.declared.term.Term.{Term}
 use Rattle.iv_term.specs.declared.term.Terms.{Terms}
 use Rattle.iv_term.specs.declared.term.Term.TheBlock.{Spine, Nil}
-use Rattle.iv_term.specs.Typ.{fun, ty_cons}
+use Rattle.iv_term.specs.Typ.{fun}
 use Rattle.iv_term.specs.Term.{lam, tm_cons}
 use Rattle.iv_hsub.specs.Typing.{cod, types_len, type_at, join, result_type, type_of, IsTerm, AreArgs, HasType}
 use Rattle.iv_hsub.specs.Index.{index, loose}
 use Rattle.iv_hsub.specs.Hsub.{happ}
-use Rattle.iv_hsub.specs.Retype.{map_typ, retype, retype_all}
+use Rattle.iv_hsub.specs.Retype.{retype, retype_all}
 use Rattle.iv_hsub.specs.Inst.{use_value, inst, inst_all, HeadVars, Vars, AllVars}
 use Rattle.iv_hsub.proofs.Stated.{bounds_shrink}
 use Rattle.iv_laws.specs.Spines.{functions}
@@ -33,12 +33,10 @@ use Rattle.iv_variables.specs.declared.kind.Kind.TheVariants.{Schematics}
 use Rattle.iv_variables.specs.declared.variable.Variable.{Variable}
 use Rattle.iv_variables.specs.Firsts.{of_kind, has_name}
 use Rattle.iv_variables.specs.Variables.{typ_variables, head_variables, variables, terms_variables}
-use Rattle.iv_unify.specs.declared.pair.Pair.{Pair}
 use Rattle.iv_unify.specs.Pairs.{has_schematic}
 use Rattle.iv_unify.specs.Values.{single, abstracted, among, and_new, index_of, and_index, indices, assigned_at, assigned, types_at, indexed}
 use Rattle.iv_unify.specs.Scope.{Scope, InScope, Over, Leads}
-use Rattle.iv_unify.specs.Laws.{IsAlike}
-use Rattle.iv_unify.proofs.Sound.{IsReady, AssignsAll}
+use Rattle.iv_unify.proofs.Sound.{AssignsAll}
 use Rattle.iv_unify.proofs.Bind.{abstracted-has, abstracted-back, abstracted-vars}
 
 -- terms that are distinct bound variables are their indices
@@ -163,7 +161,8 @@ module _ (x : Name) (v : Term) where
         let k = value-of-single y w q in
         ap (type_of no_types) (sym k.1) ∙ p.1 ∙ ap G.typ (sym k.0) ∙ sym (put-nothing (G.typ y));
     stays = λ y n q. sym (put-nothing (G.typ y));
-    grows = omega arith }
+    grows = omega arith;
+  }
 
 not-true : (b : Bool) → not b ≡ true → b ≡ false
 not-true true q = sym q

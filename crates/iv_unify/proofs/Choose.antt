@@ -1,5 +1,5 @@
 -- Projections and imitations lead from the scope of the pairs to that with the new variables.
-use Rattle.std.proofs.Common.{◌≡◌, ℕ, zero, suc, ◌+◌, ◌<◌, ◌≤◌, Bool, true, false, nat_eq, if◌then◌else◌, List, [], ◌∷◌, ◌++◌, Option, Some, None, eqb-true, refl, sym, ◌∙◌, ap, subst, arith}
+use Rattle.std.proofs.Common.{◌≡◌, ℕ, zero, suc, ◌+◌, ◌<◌, ◌≤◌, Bool, true, false, nat_eq, if◌then◌else◌, List, [], ◌∷◌, ◌++◌, Option, Some, None, refl, sym, ◌∙◌, ap, subst, arith}
 use Rattle.iv_text.specs.declared.name.Name.{Name}
 use Rattle.iv_text.specs.Name.{same_name}
 use Rattle.iv_text.proofs.Same.{same_name-true}
@@ -14,21 +14,19 @@ use Rattle.iv_term.specs.declared.term.Term.TheBlock.{Spine, Nil}
 use Rattle.iv_term.specs.Typ.{fun, ty_cons}
 use Rattle.iv_term.specs.Term.{lam, tm_cons}
 use Rattle.iv_hsub.specs.Typing.{dom, cod, types_len, type_at, head_type, result_type, type_of, IsHead, IsTerm, AreArgs, HasType}
-use Rattle.iv_hsub.specs.Index.{index, eta}
-use Rattle.iv_hsub.specs.Retype.{map_typ, map_typs, retype_head, retype}
+use Rattle.iv_hsub.specs.Retype.{map_typs, retype_head, retype}
 use Rattle.iv_hsub.specs.Inst.{HeadVars, Vars, AllVars}
 use Rattle.iv_hsub.proofs.Theory.{IsTerm-eta, retype-has, eq_true, eq_false}
 use Rattle.iv_laws.specs.Spines.{functions}
 use Rattle.iv_subst.specs.TySubst.{TyMap, put_typ, put_typs, at}
 use Rattle.iv_subst.specs.Unifier.{unified}
 use Rattle.iv_subst.proofs.Laws.Solve.{unified-solved, solved-equal}
-use Rattle.iv_put.specs.Subst.{Substitution, by_map, value_of, Values}
+use Rattle.iv_put.specs.Subst.{by_map, value_of, Values}
 use Rattle.iv_put.proofs.Theory.{map-by, vars-eta, vars-retype, vars_all-both}
-use Rattle.iv_unify.specs.declared.pair.Pair.{Pair}
 use Rattle.iv_unify.specs.Simplify.{is_function}
-use Rattle.iv_unify.specs.Values.{single, numbered, taken, domains, target, lams, own, new_variables, candidate, Choice, projected, how_many, projections, imitated, imitation_of, imitation, choices_at, choices}
-use Rattle.iv_unify.specs.Scope.{Scope, InScope, Over, Leads}
-use Rattle.iv_unify.proofs.Sound.{IsReady, EachChoice, LeadsChoice, ChoosesAll}
+use Rattle.iv_unify.specs.Values.{numbered, taken, domains, target, lams, own, new_variables, candidate, Choice, projected, how_many, projections, imitated, imitation, choices_at}
+use Rattle.iv_unify.specs.Scope.{Scope, InScope, Over}
+use Rattle.iv_unify.proofs.Sound.{EachChoice, LeadsChoice, ChoosesAll}
 use Rattle.iv_unify.proofs.Readied.{function-name}
 use Rattle.iv_unify.proofs.Assign.{retype-nothing}
 
@@ -113,17 +111,22 @@ module _ (x : Name) (ds : Types) where
       head (Free y a) p = tt
       head (Schematic y a) p =
           let l = p.0 in
-          let u = p.1.0 in
-          (omega (arith, l), (omega (arith, u),
-           p.1.1 ∙ sym (ap (λ v. if v then functions ds b else widen f (suc m) bs y) (eq_false y.number m (λ e. omega (arith, l, e))))))
+          let u = p.1.0 in (
+            omega (arith, l),
+            (
+              omega (arith, u),
+              p.1.1 ∙ sym (ap (λ v. if v then functions ds b else widen f (suc m) bs y) (eq_false y.number m (λ e. omega (arith, l, e)))),
+            ),
+          )
       head (Bound n) p = tt
 
   news-vars : (f : Name → Typ) (m : ℕ) (bs : Types) → AllVars (New f m bs) (new_variables x m ds bs)
   unfolding new_variables widen types_len
   news-vars f m no_types = tt
-  news-vars f m (ty_cons b bs) =
-      (((omega arith, (omega arith, sym (ap (λ v. if v then functions ds b else widen f (suc m) bs (numbered x m)) (eq_true m m refl)))), own-vars (New f m (ty_cons b bs)) (types_len ds)),
-       new-later f m b bs (new_variables x (suc m) ds bs) (news-vars f (suc m) bs))
+  news-vars f m (ty_cons b bs) = (
+    ((omega arith, (omega arith, sym (ap (λ v. if v then functions ds b else widen f (suc m) bs (numbered x m)) (eq_true m m refl)))), own-vars (New f m (ty_cons b bs)) (types_len ds)),
+    new-later f m b bs (new_variables x (suc m) ds bs) (news-vars f (suc m) bs),
+  )
 
 -- a head that isn't a schematic variable
 abbrev IsRigid : Head → Type 0
@@ -184,15 +187,21 @@ module _ (G : Scope) (x : Name) (ds bs : Types) (c : Typ) (h : Head) (rigid : Is
   choice-leads : LeadsChoice G choice
   unfolding Values map_typs
   choice-leads =
-      let t = retype-has (by_map r) no_types (functions ds c) value value-has in
-      (wider, (record {
-        closed = (t.0, tt);
-        over = (value-over, tt);
-        typed = λ y w n q.
-            let k = value-of-it y (retype (by_map r) value) w q in
-            ap (type_of no_types) (sym k.1) ∙ t.1 ∙ map-by r (functions ds c) ∙ type_is ∙ ap (λ z. put_typ (at r) (G.typ z)) (sym k.0);
-        stays = λ y n q. ap (put_typ (at r)) (widen-below x ds G.typ G.below bs y n);
-        grows = omega arith }, refl))
+      let t = retype-has (by_map r) no_types (functions ds c) value value-has in (
+        wider,
+        (
+          record {
+            closed = (t.0, tt);
+            over = (value-over, tt);
+            typed = λ y w n q.
+                let k = value-of-it y (retype (by_map r) value) w q in
+                ap (type_of no_types) (sym k.1) ∙ t.1 ∙ map-by r (functions ds c) ∙ type_is ∙ ap (λ z. put_typ (at r) (G.typ z)) (sym k.0);
+            stays = λ y n q. ap (put_typ (at r)) (widen-below x ds G.typ G.below bs y n);
+            grows = omega arith;
+          },
+          refl,
+        ),
+      )
 
 -- the argument types that a type shows
 functions-shown : (a : Typ) → a ≡ functions (domains a) (target a)
@@ -231,9 +240,11 @@ module _ (G : Scope) (x : Name) (ds bs : Types) (c : Typ) (below : x.number < G.
   unfolding EachChoice
   projected-leads t k i y None u cs p = p
   projected-leads t k i y (Some r) u cs p =
-      let e = solved-equal (target (type_of bs t)) c [] r (unified-solved (target (type_of bs t)) c [] r u) in
-      (choice-leads G x ds (domains (type_of bs t)) (target (type_of bs t)) (Bound k) tt i (y ∙ functions-shown (type_of bs t)) r below
-       (put-functions (at r) ds (target (type_of bs t)) c e ∙ ap (put_typ (at r)) type_is), p)
+      let e = solved-equal (target (type_of bs t)) c [] r (unified-solved (target (type_of bs t)) c [] r u) in (
+        choice-leads G x ds (domains (type_of bs t)) (target (type_of bs t)) (Bound k) tt i (y ∙ functions-shown (type_of bs t)) r below
+            (put-functions (at r) ds (target (type_of bs t)) c e ∙ ap (put_typ (at r)) type_is),
+        p,
+      )
 
   projections-lead : (a : Typ) (ts : Terms) (outer : Types) → inside ds no_types ≡ inside (taken a ts) outer → AreArgs bs a ts → EachChoice (LeadsChoice G) (projections x G.below ds bs c ts)
   unfolding EachChoice projections taken inside how_many types_len type_of dom
@@ -250,9 +261,11 @@ module _ (G : Scope) (x : Name) (ds bs : Types) (c : Typ) (below : x.number < G.
 
   imitated-leads : (h : Head) (es : Types) → IsRigid h → IsHead (inside ds no_types) h → head_type (inside ds no_types) h ≡ functions es c → EachChoice (LeadsChoice G) (imitated x G.below ds h es)
   unfolding EachChoice
-  imitated-leads h es r i y =
-      (subst (λ z. LeadsChoice G (([], (x, z) ∷ []), G.below + types_len es)) (retype-nothing (candidate x G.below ds h es))
-       (choice-leads G x ds es c h r i y [] below (ap (put_typ (at [])) type_is)), tt)
+  imitated-leads h es r i y = (
+    subst (λ z. LeadsChoice G (([], (x, z) ∷ []), G.below + types_len es)) (retype-nothing (candidate x G.below ds h es))
+        (choice-leads G x ds es c h r i y [] below (ap (put_typ (at [])) type_is)),
+    tt,
+  )
 
   imitation-leads : (t : Term) → IsTerm bs t → type_of bs t ≡ c → EachChoice (LeadsChoice G) (imitation x G.below ds t)
   unfolding EachChoice type_of

@@ -1,5 +1,6 @@
 -- Flexible terms stay flexible where the values are schematic variables under abstractions.
-use Rattle.std.proofs.Common.{◌≡◌, ℕ, suc, Bool, true, false, ◌⊎◌, inl, inr, Option, Some, None, List, [], ◌∷◌, refl, sym, ◌∙◌, ap, subst}
+use Rattle.std.proofs.Common.{◌≡◌, ℕ, suc, Bool, true, false, ◌⊎◌, inl, inr, Option, Some, None, List, [], ◌∷◌, refl, sym, ◌∙◌, ap}
+use Rattle.iv_text.specs.declared.name.Name.{Name}
 use Rattle.iv_term.specs.declared.typ.Typ.{Typ}
 use Rattle.iv_term.specs.declared.typ.Types.{Types}
 use Rattle.iv_term.specs.declared.typ.Typ.TheBlock.{Nil as no_types}
@@ -8,11 +9,11 @@ use Rattle.iv_term.specs.declared.term.Head.TheVariants.{Const, Free, Schematic,
 use Rattle.iv_term.specs.declared.term.Term.{Term}
 use Rattle.iv_term.specs.declared.term.Terms.{Terms}
 use Rattle.iv_term.specs.declared.term.Term.TheBlock.{Spine, Nil}
-use Rattle.iv_term.specs.Typ.{fun, ty_cons, same_typ}
+use Rattle.iv_term.specs.Typ.{fun, ty_cons}
 use Rattle.iv_term.specs.Term.{lam, tm_cons}
 use Rattle.iv_hsub.specs.Typing.{cod, type_of}
 use Rattle.iv_hsub.specs.Index.{raise_head, eta, contracts}
-use Rattle.iv_hsub.specs.Hsub.{append, put, put_all, happ}
+use Rattle.iv_hsub.specs.Hsub.{put, happ}
 use Rattle.iv_hsub.specs.Hhf.{expand}
 use Rattle.iv_hsub.specs.Retype.{map_typ, retype, retype_all}
 use Rattle.iv_hsub.specs.Inst.{use_value, inst, inst_all}
@@ -29,6 +30,10 @@ blank (Spine h ts) = is_variable h
 
 abbrev pub IsBlank : Term → Type 0
 IsBlank t = blank t ≡ true
+
+pub blank-variable : (x : Name) (a : Typ) (ts : Terms) → IsBlank (Spine (Schematic x a) ts)
+unfolding blank
+blank-variable x a ts = refl
 
 variable-raised : (d c : ℕ) (h : Head) → is_variable (raise_head d c h) ≡ is_variable h
 variable-raised d c (Const x a) = refl

@@ -9,3 +9,6 @@ pub mod Bind
 pub mod Assign
 pub mod Choose
 pub mod Flexible
+pub mod Gone
+pub mod Close
+pub mod Stated

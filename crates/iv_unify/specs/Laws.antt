@@ -1,6 +1,7 @@
 -- What the laws of unifiers say.
 use Rattle.std.specs.Prelude.{◌≡◌, ℕ, List, [], ◌∷◌}
-use Rattle.iv_hsub.specs.Typing.{IsTerm}
+use Rattle.iv_hsub.specs.Typing.{type_of, IsTerm}
+use Rattle.iv_subst.specs.TySubst.{put_typ, at}
 use Rattle.iv_put.specs.Subst.{Substitution, applied}
 use Rattle.iv_seq.specs.SearchTree.{SearchTree, none, one, join, work, large}
 use Rattle.iv_unify.specs.declared.pair.Pair.{Pair}
@@ -41,3 +42,12 @@ IsUnifier G ps s = AreAlike s ps × ((D : Scope) × Leads s G D)
 -- each leaf is a unifier of pairs in which each schematic variable has a number below the first new one, and one type
 abbrev pub LeavesUnify : Type 0
 LeavesUnify = (G : Scope) (depth : ℕ) (ps : List Pair) → AreOver G ps → EachLeaf (IsUnifier G ps) (unifiers_of depth G.below ps)
+
+-- the types of both sides of each pair are equal under a substitution
+unfoldable pub HaveTypesAlike : Substitution → List Pair → Type 0
+HaveTypesAlike s [] = Unit {0}
+HaveTypesAlike s (p ∷ ps) = (put_typ (at s.0) (type_of p.bounds p.left) ≡ put_typ (at s.0) (type_of p.bounds p.right)) × HaveTypesAlike s ps
+
+-- what makes the sides equal makes their types equal
+abbrev pub UnifiersUnifyTypes : Type 0
+UnifiersUnifyTypes = (G : Scope) (ps : List Pair) (s : Substitution) → AreOver G ps → IsUnifier G ps s → HaveTypesAlike s ps
