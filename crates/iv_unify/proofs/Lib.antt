@@ -12,3 +12,4 @@ pub mod Flexible
 pub mod Gone
 pub mod Close
 pub mod Stated
+pub mod Names

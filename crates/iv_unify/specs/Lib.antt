@@ -4,3 +4,4 @@ pub mod Values
 pub mod Unifiers
 pub mod Scope
 pub mod Laws
+pub mod Names
