@@ -36,6 +36,7 @@ use Rattle.iv_variables.specs.Variables.{typ_variables, head_variables, variable
 use Rattle.iv_unify.specs.Pairs.{has_schematic}
 use Rattle.iv_unify.specs.Values.{single, abstracted, among, and_new, index_of, and_index, indices, assigned_at, assigned, types_at, indexed}
 use Rattle.iv_unify.specs.Scope.{Scope, InScope, Over, Leads}
+use Rattle.iv_unify.specs.Laws.{AssignedIsAbsent}
 use Rattle.iv_unify.proofs.Sound.{AssignsAll}
 use Rattle.iv_unify.proofs.Bind.{abstracted-has, abstracted-back, abstracted-vars}
 
@@ -210,3 +211,24 @@ assigns-by G bs (Spine (Schematic x a) ts) t e p q v w s r = assigned-alike G bs
 
 pub assigns_all : AssignsAll
 assigns_all G p e r q = assigns-by G p.bounds p.left p.right e r.over.left_term r.over.right_term r.over.left_over r.over.right_over r.same q
+
+-- the assigned variable is in no value
+absent-at : (bs : Types) (x : Name) (o : Option (List ℕ)) (t : Term) (e : Substitution) → assigned_at bs x o t ≡ Some e → Values (Vars (λ h a. values e h ≡ None)) e.1
+unfolding Values
+absent-at bs x None t e r = absurd (let bad : None ≡ Some e = r in cc)
+absent-at bs x (Some is) t e r = go (nat_eq (loose (abstracted is bs t)) 0 && not (has_schematic x t)) refl r
+  where
+    go : (b : Bool) → (nat_eq (loose (abstracted is bs t)) 0 && not (has_schematic x t)) ≡ b → (if b then Some (single x (abstracted is bs t)) else None) ≡ Some e → Values (Vars (λ h a. values e h ≡ None)) e.1
+    go false h k = absurd (let bad : None ≡ Some e = k in cc)
+    go true h k =
+        let v = abstracted is bs t in
+        let q = not-true (has_schematic x t) (and_parts (nat_eq (loose v) 0) (not (has_schematic x t)) h).1 in
+        subst (λ z. Values (Vars (λ h a. values z h ≡ None)) z.1) (some-substitution (single x v) e k)
+        (abstracted-vars (λ h a. values (single x v) h ≡ None) is bs t (absent-vars x v t q), tt)
+
+pub assigned_absent : AssignedIsAbsent
+assigned_absent bs (lam a b) t e r = absurd (let bad : None ≡ Some e = r in cc)
+assigned_absent bs (Spine (Const c a) ts) t e r = absurd (let bad : None ≡ Some e = r in cc)
+assigned_absent bs (Spine (Free x a) ts) t e r = absurd (let bad : None ≡ Some e = r in cc)
+assigned_absent bs (Spine (Bound n) ts) t e r = absurd (let bad : None ≡ Some e = r in cc)
+assigned_absent bs (Spine (Schematic x a) ts) t e r = absent-at bs x (indices ts) t e r

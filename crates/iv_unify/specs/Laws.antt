@@ -1,11 +1,15 @@
 -- What the laws of unifiers say.
-use Rattle.std.specs.Prelude.{◌≡◌, ℕ, List, [], ◌∷◌}
+use Rattle.std.specs.Prelude.{◌≡◌, ℕ, List, [], ◌∷◌, Some, None}
+use Rattle.iv_term.specs.declared.typ.Types.{Types}
+use Rattle.iv_term.specs.declared.term.Term.{Term}
 use Rattle.iv_hsub.specs.Typing.{type_of, IsTerm}
 use Rattle.iv_subst.specs.TySubst.{put_typ, at}
-use Rattle.iv_put.specs.Subst.{Substitution, applied}
+use Rattle.iv_hsub.specs.Inst.{Vars}
+use Rattle.iv_put.specs.Subst.{Substitution, values, Values, applied}
 use Rattle.iv_seq.specs.SearchTree.{SearchTree, none, one, join, work, large}
 use Rattle.iv_unify.specs.declared.pair.Pair.{Pair}
 use Rattle.iv_unify.specs.Scope.{Scope, Over, Leads}
+use Rattle.iv_unify.specs.Values.{assigned}
 use Rattle.iv_unify.specs.Unifiers.{unifiers_of}
 
 -- both sides of a pair are terms over a scope
@@ -51,3 +55,7 @@ HaveTypesAlike s (p ∷ ps) = (put_typ (at s.0) (type_of p.bounds p.left) ≡ pu
 -- what makes the sides equal makes their types equal
 abbrev pub UnifiersUnifyTypes : Type 0
 UnifiersUnifyTypes = (G : Scope) (ps : List Pair) (s : Substitution) → AreOver G ps → IsUnifier G ps s → HaveTypesAlike s ps
+
+-- a variable that is assigned at no cost stands in no value of the assignment
+abbrev pub AssignedIsAbsent : Type 0
+AssignedIsAbsent = (bounds : Types) (left right : Term) (e : Substitution) → assigned bounds left right ≡ Some e → Values (Vars (λ h a. values e h ≡ None)) e.1
