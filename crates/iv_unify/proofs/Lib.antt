@@ -13,3 +13,4 @@ pub mod Gone
 pub mod Close
 pub mod Stated
 pub mod Names
+pub mod Enough

@@ -1,14 +1,15 @@
 -- What the laws of unifiers say.
-use Rattle.std.specs.Prelude.{◌≡◌, ℕ, List, [], ◌∷◌, Some, None}
+use Rattle.std.specs.Prelude.{◌≡◌, ℕ, ◌≤◌, List, [], ◌∷◌, Some, None}
 use Rattle.iv_term.specs.declared.typ.Types.{Types}
 use Rattle.iv_term.specs.declared.term.Term.{Term}
 use Rattle.iv_hsub.specs.Typing.{type_of, IsTerm}
-use Rattle.iv_subst.specs.TySubst.{put_typ, at}
+use Rattle.iv_subst.specs.TySubst.{TyMap, put_typ, at}
 use Rattle.iv_hsub.specs.Inst.{Vars}
 use Rattle.iv_put.specs.Subst.{Substitution, values, Values, applied}
 use Rattle.iv_seq.specs.SearchTree.{SearchTree, none, one, join, work, large}
 use Rattle.iv_unify.specs.declared.pair.Pair.{Pair}
 use Rattle.iv_unify.specs.Scope.{Scope, Over, Leads}
+use Rattle.iv_unify.specs.Simplify.{simplify, total}
 use Rattle.iv_unify.specs.Values.{assigned}
 use Rattle.iv_unify.specs.Unifiers.{unifiers_of}
 
@@ -59,3 +60,7 @@ UnifiersUnifyTypes = (G : Scope) (ps : List Pair) (s : Substitution) → AreOver
 -- a variable that is assigned at no cost stands in no value of the assignment
 abbrev pub AssignedIsAbsent : Type 0
 AssignedIsAbsent = (bounds : Types) (left right : Term) (e : Substitution) → assigned bounds left right ≡ Some e → Values (Vars (λ h a. values e h ≡ None)) e.1
+
+-- simplification ends: any number of turns from the pairs' size on gives the same
+abbrev pub TurnsAreEnough : Type 0
+TurnsAreEnough = (n m : ℕ) (s : TyMap) (ps : List Pair) → total ps ≤ n → total ps ≤ m → simplify n s ps ≡ simplify m s ps

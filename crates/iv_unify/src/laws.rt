@@ -1,6 +1,6 @@
 //! The laws of unifiers, each as the contract of a function that does nothing.
 ghost use Rattle.iv_unify.specs.Scope.{LeadingApplies, LeadingIsOver, LeadingKeepsTypes, LeadingComposes, LeadingIsBoth, NothingLeads};
-ghost use Rattle.iv_unify.specs.Laws.{LeavesUnify, UnifiersUnifyTypes, AssignedIsAbsent};
+ghost use Rattle.iv_unify.specs.Laws.{LeavesUnify, UnifiersUnifyTypes, AssignedIsAbsent, TurnsAreEnough};
 ghost use Rattle.iv_unify.specs.Names.{LeavesKeepNames};
 
 /// Each leaf of the tree of unifiers makes both sides of every pair equal, and their types. The pairs are terms in which each schematic
@@ -14,6 +14,11 @@ pub fn leaves_are_unifiers()
 /// The variables that a leaf has values for, and those of its values, stand in the pairs or have the first new number or a greater one.
 pub fn leaves_keep_names()
     ensures { LeavesKeepNames }
+{}
+
+/// Simplification ends: each turn leaves less, so as many turns as the size of the pairs are enough.
+pub fn turns_are_enough()
+    ensures { TurnsAreEnough }
 {}
 
 /// A variable that is assigned at no cost stands in no value of the assignment.
