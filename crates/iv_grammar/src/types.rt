@@ -75,6 +75,7 @@ impl From<NoType> for NoParse {
 pub fn parse_type(alloc: Global, tokens: &[Token]) -> Result<TypeTree, NoParse>
     ensures belongs { IfOk result (λ t. TypeBelongs tokens.now (at (types_of t.nodes.items) t.root)) }
     ensures only { IfOk result (λ t. (u : Ty) → TypeBelongs tokens.now u → u ≡ at (types_of t.nodes.items) t.root) }
+    ensures within { IfOk result (λ t. t.root < length (types_of t.nodes.items)) }
     ensures shallow { IfOk result (λ t. type_depth (at (types_of t.nodes.items) t.root) ≤ 400) }
     ensures none { IfErr result (λ e. e ≡ NoParse.NoTree → (u : Ty) → TypeBelongs tokens.now u → ⊥) }
     ensures deep { IfErr result (λ e. e ≡ NoParse.Deep → (u : Ty) × (TypeBelongs tokens.now u × (400 < type_depth u))) }

@@ -34,7 +34,8 @@ AbstractIsConstant = (x : Name) (a : Typ) (t : Term) → has_free x a t ≡ fals
 abbrev pub RaisePassesAbstract : Type 0
 RaisePassesAbstract = (x : Name) (a : Typ) (d c : ℕ) (t : Term) → abstract_over x a (raise d c t) ≡ raise d c (abstract_over x a t)
 
--- values put for other variables, in none of which the variable is, pass abstraction over it
+-- values put for other variables, in none of which the variable is, pass abstraction over it, where each fits its variable at whatever type:
+-- those of an instance do, which are found by name and type
 abbrev pub IsWithout : Name → Typ → Option Term → Type 0
 IsWithout x a None = Unit {0}
 IsWithout x a (Some v) = has_free x a v ≡ false

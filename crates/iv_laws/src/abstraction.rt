@@ -12,8 +12,8 @@ pub fn what_is_abstracted_over_is_gone()
     ensures constant { AbstractIsConstant }
 {}
 
-/// Raising passes abstraction, and so do values that are put for other variables, where the abstracted one is in none of
-/// them, and types that are put in a term, where they make no other variable of its name equal to it. Binding passes values
+/// Raising passes abstraction, and so do values that are put for other variables, each at its own type, where the abstracted one is in
+/// none of them, and types that are put in a term, where they make no other variable of its name equal to it. Binding passes values
 /// at arguments.
 pub fn abstraction_is_passed()
     ensures raise { RaisePassesAbstract }

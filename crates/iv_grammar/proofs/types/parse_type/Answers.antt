@@ -18,3 +18,6 @@ returns-else-part-gt400-clause-belongs c = belongs_read c.args.tokens.now _ c.in
 
 pub returns-else-part-gt400-clause-only : goal.returns-else-part-gt400-clause-only
 returns-else-part-gt400-clause-only c = only_read c.args.tokens.now _ c.in-Ok.rest.now c.in-Ok.ensures.reads
+
+pub returns-else-part-gt400-clause-within : goal.returns-else-part-gt400-clause-within
+returns-else-part-gt400-clause-within c = c.in-Ok.ensures.part.within
